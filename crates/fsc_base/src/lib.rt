@@ -1,0 +1,19 @@
+//! Names, places, rules, words and images: the plain data that every layer speaks of.
+#![tactic(auto)]
+
+mod bytes;
+mod image;
+mod memory;
+mod place;
+mod rule;
+mod word;
+
+pub use bytes::{Bytes, Name};
+pub use image::{Image, Segment, Segments};
+pub use memory::NoMemory;
+pub use place::{Broken, Place};
+pub use rule::Rule;
+pub use word::{Width, Word, WordKind};
+
+#[cfg(test)]
+mod tests;

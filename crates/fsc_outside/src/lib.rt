@@ -1,0 +1,13 @@
+//! What reaches outside the program: files by name, a stream to read from and a stream to write to.
+//!
+//! Each object may tell what it holds or has left, and then every call is exact; where it doesn't, as a real file or
+//! terminal, its calls are known by their counts alone.
+#![tactic(auto)]
+
+mod files;
+mod sink;
+mod source;
+
+pub use files::{Files, Got, Put};
+pub use sink::{Gave, Sink, Wrote, write_whole};
+pub use source::{Source, Took};
