@@ -1,6 +1,6 @@
 //! Byte strings that own their bytes: texts, names of files and identifiers, contents of segments.
 
-ghost use Rattle.std.specs.Prelude.{◌≡◌, ℕ, List, IfOk};
+ghost use Rattle.std.specs.Prelude.{◌≡◌, ℕ, ◌<◌, List, length, slice_set, IfOk};
 
 use crate::memory::NoMemory;
 use std::alloc::Global;
@@ -51,5 +51,13 @@ impl Bytes {
         ensures { result.now ≡ self.now }
     {
         self.items.as_slice()
+    }
+
+    /// Makes `byte` the byte at an index.
+    pub fn set(&mut self, index: usize, byte: u8)
+        requires { index < length self.old }
+        ensures { self.new ≡ slice_set self.old index byte }
+    {
+        self.items[index] = byte;
     }
 }

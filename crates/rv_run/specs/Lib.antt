@@ -1,0 +1,3 @@
+pub mod ImageRun
+pub mod Machine
+pub mod Memory
