@@ -1,11 +1,13 @@
 -- Runs: the machine's steps, one after another, and what they write.
-use Rattle.std.specs.Prelude.{◌≡◌, ℕ, zero, suc, List, [], ◌++◌, Option}
+use Rattle.std.specs.Prelude.{◌≡◌, ℕ, zero, suc, List, [], ◌++◌, Option, Result, Ok, Err}
 use Rattle.fsc_outside.specs.Streams.{Appends, AppendsFront}
+use Rattle.rv_isa.specs.declared.inst.Inst.{Inst}
+use Rattle.rv_run.specs.declared.stop.TrapKind.{TrapKind}
 use Rattle.rv_run.specs.declared.stop.Step.{Step}
 use Rattle.rv_run.specs.declared.stop.Step.TheVariants as step
 use Rattle.rv_run.specs.declared.stop.Stop.{Stop}
 use Rattle.rv_run.specs.declared.stop.Stop.TheVariants as stop
-use Rattle.rv_run.specs.Machine.{State, Action, Goes, Exits, Traps, action_of, counted}
+use Rattle.rv_run.specs.Machine.{State, Action, Goes, Exits, Traps, row, action_of, counted}
 
 -- A run of at most so many instructions: the state after it, what was written, and how it ended, which is Steps where
 -- all of them ran.
@@ -32,18 +34,33 @@ unfoldable pub image_run : ℕ → State → ImageRun
 image_run zero s = record { machine = s; written = []; stop = stop.Steps }
 image_run (suc n) s = beginning s (action_of s) (image_run n)
 
--- How the program performs one step. `before` and `after` are what the output holds where it tells.
--- An end leaves the state as it was but for the count; where the output refuses a write, a front of it was written.
-abbrev pub EndsBy : Stop → State → (before after : Option (List ℕ)) → Type 0
-EndsBy (stop.Exit status) s before after = (action_of s ≡ Exits status) × Appends before after []
-EndsBy (stop.Trap kind pc) s before after = (action_of s ≡ Traps kind) × (pc ≡ s.pc) × Appends before after []
-EndsBy stop.WriteFault s before after = (bytes : List ℕ) (t : State) × (action_of s ≡ Goes bytes t) × AppendsFront before after bytes
-EndsBy stop.NoMemory s before after = (bytes : List ℕ) (t : State) × (action_of s ≡ Goes bytes t) × AppendsFront before after bytes
-EndsBy stop.Steps s before after = ⊥
+-- what an instruction that may trap, and else writes nothing, leaves of the state
+abbrev pub MeetsRow : Action → (old new : State) → Result (Unit {0}) TrapKind → Type 0
+MeetsRow action old new (Ok _) = action ≡ Goes [] new
+MeetsRow action old new (Err kind) = (action ≡ Traps kind) × (new ≡ old)
 
-abbrev pub Performs : Step → (old new : State) (before after : Option (List ℕ)) → Type 0
-Performs step.Next old new before after = (bytes : List ℕ) × (action_of old ≡ Goes bytes new) × Appends before after bytes
-Performs (step.Ended stop) old new before after = (new ≡ counted old) × EndsBy stop old before after
+-- which instruction the state asks for
+abbrev pub FindsRow : State → Result Inst TrapKind → Type 0
+FindsRow s (Ok inst) = action_of s ≡ row inst s
+FindsRow s (Err kind) = action_of s ≡ Traps kind
+
+-- How the program performs what an instruction does. `before` and `after` are what the output holds where it tells.
+-- An end leaves the state as it was but for the count; where the output refuses a write, a front of it was written.
+abbrev pub IsCutShort : Action → (before after : Option (List ℕ)) → Type 0
+IsCutShort (Goes bytes t) before after = AppendsFront before after bytes
+IsCutShort (Exits status) before after = ⊥
+IsCutShort (Traps kind) before after = ⊥
+
+abbrev pub EndsBy : Action → Stop → (pc : ℕ) (before after : Option (List ℕ)) → Type 0
+EndsBy action (stop.Exit status) pc before after = (action ≡ Exits status) × Appends before after []
+EndsBy action (stop.Trap kind at) pc before after = (action ≡ Traps kind) × (at ≡ pc) × Appends before after []
+EndsBy action stop.WriteFault pc before after = IsCutShort action before after
+EndsBy action stop.NoMemory pc before after = IsCutShort action before after
+EndsBy action stop.Steps pc before after = ⊥
+
+abbrev pub Performs : Action → Step → (old new : State) (before after : Option (List ℕ)) → Type 0
+Performs action step.Next old new before after = (bytes : List ℕ) × (action ≡ Goes bytes new) × Appends before after bytes
+Performs action (step.Ended stop) old new before after = (new ≡ counted old) × EndsBy action stop old.pc before after
 
 -- the program ran all of this, and stopped so
 abbrev pub RunsWhole : ImageRun → Stop → State → (before after : Option (List ℕ)) → Type 0

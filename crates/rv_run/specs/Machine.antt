@@ -73,7 +73,7 @@ abbrev pub is_mark : (rd rs1 : ℕ) (imm : ℤ) → Bool
 is_mark rd rs1 imm = (rd == 0) && ((rs1 == 0) && (cast_unsigned w32 imm == 1))
 
 abbrev pub with_mark : Bool → State → State
-with_mark is_one s = record s { marks = s.marks + (if is_one then 1 else 0) }
+with_mark is_one s = if is_one then record s { marks = s.marks + 1 } else s
 
 -- ADDI
 abbrev pub addi : (rd rs1 : ℕ) (imm : ℤ) → State → Action

@@ -1,6 +1,6 @@
 //! Memory: the segments of an image, each a flat list of bytes.
 
-ghost use Rattle.std.specs.Prelude.{◌≡◌, ◌+◌, ◌/◌, ◌%◌, ◌==◌, ◌≤◌, length, map, position, All, Some, None, MatchOption, MatchResult, IfOk};
+ghost use Rattle.std.specs.Prelude.{◌≡◌, ◌+◌, ◌/◌, ◌%◌, ◌==◌, ◌≤◌, length, map, position, All, Some, None, IfSome, MatchOption, MatchResult, IfOk};
 ghost use Rattle.fsc_base.specs.Image.{IsSoundSegment};
 ghost use Rattle.rv_run.specs.Memory.{flag_of, covers, part, bytes_at, with_byte, region_of};
 
@@ -85,7 +85,8 @@ impl Region {
     /// `n` bytes from the address `at` on.
     fn part(&self, at: u32, n: u32) -> &[u8]
         requires { (self.now.address ≤ at) × (at + n ≤ self.now.address + length self.now.bytes) }
-        ensures { result.now ≡ part self.now at n }
+        ensures bytes { result.now ≡ part self.now at n }
+        ensures length { length result.now ≡ n }
     {
         let start = (at - self.address) as usize;
         &self.bytes.as_slice()[start..start + n as usize]
@@ -95,7 +96,8 @@ impl Region {
 /// `n` bytes from the address `at` on, where they all lie in one region that gives the right.
 #[tactic(auto, unfolding(crate::specs::Memory::bytes_at))]
 fn bytes_in(regions: &[Region], right: Right, at: u32, n: u32) -> Option<&[u8]>
-    ensures { MatchOption result (bytes_at regions.now right at n ≡ None) (λ bytes. bytes_at regions.now right at n ≡ Some bytes.now) }
+    ensures bytes { MatchOption result (bytes_at regions.now right at n ≡ None) (λ bytes. bytes_at regions.now right at n ≡ Some bytes.now) }
+    ensures length { IfSome result (λ bytes. length bytes.now ≡ n) }
 {
     match regions {
         [] => None,
@@ -144,7 +146,8 @@ impl Memory {
     /// `n` bytes from the address `at` on, or None exactly where they don't all lie in one region that gives the
     /// right.
     pub fn bytes_at(&self, right: Right, at: u32, n: u32) -> Option<&[u8]>
-        ensures { MatchOption result (bytes_at self.now right at n ≡ None) (λ bytes. bytes_at self.now right at n ≡ Some bytes.now) }
+        ensures bytes { MatchOption result (bytes_at self.now right at n ≡ None) (λ bytes. bytes_at self.now right at n ≡ Some bytes.now) }
+        ensures length { IfSome result (λ bytes. length bytes.now ≡ n) }
     {
         bytes_in(&self.regions, right, at, n)
     }

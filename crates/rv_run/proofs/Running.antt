@@ -1,0 +1,33 @@
+-- A run that goes on by one instruction, ends with it, or is done.
+use Rattle.std.proofs.Common.{◌≡◌, ℕ, zero, suc, ◌+◌, ◌-◌, ◌<◌, ◌≤◌, ◌^◌, List, [], ◌∷◌, ◌++◌, Option, Some, None, refl, sym, ap, subst, ◌∙◌, append_assoc, arith}
+use Rattle.std.proofs.lemmas.List.{append-nil}
+use Rattle.fsc_outside.specs.Streams.{Appends, AppendsFront}
+use Rattle.fsc_outside.proofs.Appending.{appends_then, appends_front_then, appends_front_longer, appends_front_whole}
+use Rattle.rv_run.specs.declared.stop.Step.TheVariants as step
+use Rattle.rv_run.specs.declared.stop.Stop.{Stop}
+use Rattle.rv_run.specs.declared.stop.Stop.TheVariants as stop
+use Rattle.rv_run.specs.Machine.{State, Action, Goes, Exits, Traps, action_of, counted}
+use Rattle.rv_run.specs.ImageRun.{ImageRun, writing_first, ending, beginning, image_run, IsCutShort, EndsBy, Performs, RunsWhole, Runs}
+
+writing_twice : (front part : List ℕ) (run : ImageRun) → writing_first front (writing_first part run) ≡ writing_first (front ++ part) run
+writing_twice front part run = ap (λ (bytes : List ℕ). record run { written = bytes }) (sym (append_assoc front part run.written))
+
+-- one instruction of those that are left
+one_more : (n i : ℕ) (s : State) → i < n → image_run (n - i) s ≡ beginning s (action_of s) (image_run (n - (i + 1)))
+unfolding image_run
+one_more n i s lt = let k : n - i ≡ suc (n - (i + 1)) = omega arith in rw k refl
+
+pub goes_on : (n i : ℕ) (whole : ImageRun) (s t : State) (bytes front : List ℕ) → i < n → action_of s ≡ Goes bytes t
+    → whole ≡ writing_first front (image_run (n - i) s)
+    → whole ≡ writing_first (front ++ bytes) (image_run (n - (i + 1)) t)
+goes_on n i whole s t bytes front lt is so_far =
+    let one : image_run (n - i) s ≡ writing_first bytes (image_run (n - (i + 1)) t) = rw (one_more n i s lt, is) refl in
+    so_far ∙ ap (writing_first front) one ∙ writing_twice front bytes (image_run (n - (i + 1)) t)
+
+pub is_done : (n i : ℕ) (whole : ImageRun) (s : State) (before after : Option (List ℕ)) (front : List ℕ) → n ≤ i
+    → whole ≡ writing_first front (image_run (n - i) s) → Appends before after front → RunsWhole whole stop.Steps s before after
+unfolding image_run
+is_done n i whole s before after front le so_far wrote =
+    let none : n - i ≡ 0 = omega arith in
+    let now : whole ≡ record { machine = s; written = front ++ []; stop = stop.Steps } = so_far ∙ rw none refl in
+    rw now (refl, refl, rw append-nil wrote)
