@@ -32,7 +32,7 @@ s_row opcode funct3 rs1 rs2 imm o f n v row =
 
 -- The word of a valid instruction is read as the instruction.
 reads_back : (inst : Inst) → IsValid inst → NamesRegisters inst → ReadsAs (encoding inst) inst
-unfolding decoded encoding
+unfolding decoded decoded_op_imm decoded_store decoded_system encoding
 reads_back (Lui rd imm) v n = u_row 0x37 rd imm (lit< tt) n v (λ code s. simp (s.opcode_is, s.rd_is, s.imm_is))
 reads_back (Addi rd rs1 imm) v n = i_row 0x13 0 rd rs1 imm (lit< tt) (lit< tt) n v (λ code s. simp (s.opcode_is, s.funct3_is, s.rd_is, s.rs1_is, s.imm_is))
 reads_back (Sb rs1 rs2 imm) v n = s_row 0x23 0 rs1 rs2 imm (lit< tt) (lit< tt) n v (λ code s. simp (s.opcode_is, s.funct3_is, s.rs1_is, s.rs2_is, s.imm_is))
@@ -64,19 +64,19 @@ s_spells opcode funct3 code below o f =
     (s_imm_of-range code, (omega arith, omega arith), rw (← o, ← f) (s_format-fields code below))
 
 op_imm_spells : (code : ℕ) → code < 2 ^ 32 → opcode_of code ≡ 0x13 → IfSome (decoded_op_imm code) (Spells code)
-unfolding encoding
+unfolding decoded_op_imm encoding
 op_imm_spells code below o =
     on_equal code (funct3_of code) 0 _ _ (λ f. i_spells 0x13 0 code below o f)
     tt
 
 store_spells : (code : ℕ) → code < 2 ^ 32 → opcode_of code ≡ 0x23 → IfSome (decoded_store code) (Spells code)
-unfolding encoding
+unfolding decoded_store encoding
 store_spells code below o =
     on_equal code (funct3_of code) 0 _ _ (λ f. s_spells 0x23 0 code below o f)
     tt
 
 system_spells : (code : ℕ) → IfSome (decoded_system code) (Spells code)
-unfolding encoding
+unfolding decoded_system encoding
 system_spells code =
     on_equal code code 0x73 _ _ (λ e. (tt, tt, sym e))
     tt

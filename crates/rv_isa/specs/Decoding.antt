@@ -5,23 +5,24 @@ use Rattle.rv_isa.specs.declared.inst.Inst.TheVariants.{Lui, Addi, Sb, Ecall}
 use Rattle.rv_isa.specs.Fields.{opcode_of, rd_of, funct3_of, rs1_of, rs2_of, u_imm_of, i_imm_of, s_imm_of}
 
 -- the opcode OP-IMM
-abbrev pub decoded_op_imm : ℕ → Option Inst
+unfoldable pub decoded_op_imm : ℕ → Option Inst
 decoded_op_imm code =
     if funct3_of code == 0 then Some (Addi (rd_of code) (rs1_of code) (i_imm_of code))
     else None
 
 -- the opcode STORE
-abbrev pub decoded_store : ℕ → Option Inst
+unfoldable pub decoded_store : ℕ → Option Inst
 decoded_store code =
     if funct3_of code == 0 then Some (Sb (rs1_of code) (rs2_of code) (s_imm_of code))
     else None
 
 -- the opcode SYSTEM, whose words have no fields of their own
-abbrev pub decoded_system : ℕ → Option Inst
+unfoldable pub decoded_system : ℕ → Option Inst
 decoded_system code =
     if code == 0x73 then Some Ecall
     else None
 
+-- the whole table, by opcode
 unfoldable pub decoded : ℕ → Option Inst
 decoded code =
     if opcode_of code == 0x37 then Some (Lui (rd_of code) (u_imm_of code))

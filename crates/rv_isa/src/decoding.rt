@@ -1,15 +1,15 @@
 //! From words to instructions.
 
-ghost use Rattle.std.specs.Prelude.{◌≡◌, ◌<◌, ◌^◌, ◌≤◌, ◌+◌, IfSome, Some};
+ghost use Rattle.std.specs.Prelude.{◌≡◌, ℕ, ◌<◌, ◌^◌, IfSome, Some};
 ghost use Rattle.rv_isa.specs.declared.inst.Inst.{Inst};
-ghost use Rattle.rv_isa.specs.Encoding.{Spells};
+ghost use Rattle.rv_isa.specs.Encoding.{IsValid, NamesRegisters, encoding, Spells};
 ghost use Rattle.rv_isa.specs.Fields.{field, signed12, u_imm_of, i_imm_of, s_imm_of};
 ghost use Rattle.rv_isa.specs.Decoding.{decoded, decoded_op_imm, decoded_store, decoded_system};
 
 use crate::inst::Inst;
 use crate::reg::Reg;
 
-/// The field of so many bits from a bit up.
+/// The field of `width` bits whose lowest is the bit `from`.
 fn field(code: u32, from: u32, width: u32) -> u32
     requires { (from < 32) × (width < 32) }
     ensures same { result ≡ field code from width }
@@ -18,7 +18,7 @@ fn field(code: u32, from: u32, width: u32) -> u32
     code >> from & (1 << width) - 1
 }
 
-/// The register whose number stands in the five bits from a bit up.
+/// The register whose number is the five bits from the bit `from` up.
 fn register_at(code: u32, from: u32) -> Reg
     requires { from < 32 }
     ensures { result ≡ field code from 5 }
@@ -56,6 +56,7 @@ fn s_imm(code: u32) -> i32
 }
 
 /// A word of the opcode OP-IMM.
+#[tactic(auto, unfolding(crate::specs::Decoding::decoded_op_imm))]
 fn decode_op_imm(code: u32) -> Option<Inst>
     ensures { result ≡ decoded_op_imm code }
 {
@@ -67,6 +68,7 @@ fn decode_op_imm(code: u32) -> Option<Inst>
 }
 
 /// A word of the opcode STORE.
+#[tactic(auto, unfolding(crate::specs::Decoding::decoded_store))]
 fn decode_store(code: u32) -> Option<Inst>
     ensures { result ≡ decoded_store code }
 {
@@ -78,6 +80,7 @@ fn decode_store(code: u32) -> Option<Inst>
 }
 
 /// A word of the opcode SYSTEM.
+#[tactic(auto, unfolding(crate::specs::Decoding::decoded_system))]
 fn decode_system(code: u32) -> Option<Inst>
     ensures { result ≡ decoded_system code }
 {
@@ -108,4 +111,12 @@ pub fn decode(code: u32) -> Option<Inst>
     ensures table { result ≡ decoded code }
 {
     decode_any(code)
+}
+
+/// The law of the table. The word of an instruction decodes to the instruction, and what a word decodes to has that
+/// word.
+pub fn round_trips()
+    ensures instruction { (inst : Inst) → IsValid inst → NamesRegisters inst → (encoding inst < 2 ^ 32) × (decoded (encoding inst) ≡ Some inst) }
+    ensures word { (code : ℕ) → code < 2 ^ 32 → IfSome (decoded code) (Spells code) }
+{
 }
