@@ -1,6 +1,5 @@
 -- Each format both ways: what its word says at each place, and the word that the fields of a word make.
-use Rattle.std.proofs.Common.{ℕ, ◌≡◌, ◌+◌, ◌*◌, ◌/◌, ◌%◌, ◌<◌, ◌^◌, ℤ, pos, arith, ap, ◌∙◌}
-use Rattle.std.specs.Int.{w32, cast_unsigned}
+use Rattle.std.proofs.Common.{ℕ, ◌≡◌, ◌+◌, ◌*◌, ◌<◌, ◌^◌, ℤ, arith, ap, ◌∙◌}
 use Rattle.std.proofs.lemmas.Int.{ints}
 use Rattle.rv_isa.specs.Encoding.{IsSigned12, IsUnsigned20}
 use Rattle.rv_isa.specs.Formats.{bits12, u_format, i_format, s_format}
@@ -59,8 +58,8 @@ i_format-says opcode funct3 rd rs1 imm o f d a range =
       rd_is = omega arith;
       rs1_is = omega arith;
       imm_is =
-        let e : field (i_format opcode funct3 rd rs1 imm) 20 12 ≡ bits12 imm = omega arith in
-        ap signed12 e ∙ signed12-bits12 imm range;
+          let e : field (i_format opcode funct3 rd rs1 imm) 20 12 ≡ bits12 imm = omega arith in
+          ap signed12 e ∙ signed12-bits12 imm range;
     }
 
 pub i_format-fields : (code : ℕ) → code < 2 ^ 32 → i_format (opcode_of code) (funct3_of code) (rd_of code) (rs1_of code) (i_imm_of code) ≡ code
@@ -87,8 +86,8 @@ s_format-says opcode funct3 rs1 rs2 imm o f a b range =
       rs1_is = omega arith;
       rs2_is = omega arith;
       imm_is =
-        let e : field (s_format opcode funct3 rs1 rs2 imm) 7 5 + 32 * field (s_format opcode funct3 rs1 rs2 imm) 25 7 ≡ bits12 imm = omega arith in
-        ap signed12 e ∙ signed12-bits12 imm range;
+          let e : field (s_format opcode funct3 rs1 rs2 imm) 7 5 + 32 * field (s_format opcode funct3 rs1 rs2 imm) 25 7 ≡ bits12 imm = omega arith in
+          ap signed12 e ∙ signed12-bits12 imm range;
     }
 
 pub s_format-fields : (code : ℕ) → code < 2 ^ 32 → s_format (opcode_of code) (funct3_of code) (rs1_of code) (rs2_of code) (s_imm_of code) ≡ code

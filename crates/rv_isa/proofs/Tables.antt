@@ -1,5 +1,5 @@
--- The two tables turn each other round, a line for each instruction and direction.
-use Rattle.std.proofs.Common.{ℕ, ◌≡◌, ◌<◌, ◌^◌, Bool, true, false, cond, eqb, ℤ, Option, Some, None, if◌then◌else◌, ◌==◌, arith, refl, sym, lit<, ⊎_elim}
+-- The table of encodings and the table of decodings are inverse: a line for each instruction in each direction.
+use Rattle.std.proofs.Common.{ℕ, ◌≡◌, ◌<◌, ◌^◌, ℤ, Option, Some, if◌then◌else◌, ◌==◌, arith, refl, sym, lit<, ⊎_elim}
 use Rattle.std.proofs.lemmas.Bool.Decides.{eqb_tells}
 use Rattle.std.specs.Option.{IfSome}
 use Rattle.rv_isa.specs.declared.inst.Inst.{Inst}
@@ -10,8 +10,8 @@ use Rattle.rv_isa.specs.Formats.{u_format, i_format, s_format}
 use Rattle.rv_isa.specs.Fields.{opcode_of, rd_of, funct3_of, rs1_of, rs2_of, u_imm_of, i_imm_of, s_imm_of}
 use Rattle.rv_isa.proofs.Formats.{SaysU, SaysI, SaysS, u_format-says, i_format-says, s_format-says, u_format-fields, i_format-fields, s_format-fields, u_imm_of-range, i_imm_of-range, s_imm_of-range}
 
--- What a word is read as: a row of the decoding table.
-pub record ReadsAs (code : ℕ) (inst : Inst) : Type 0 where
+-- From instructions to words and back. Each format's lemma takes how the decoding table reads a word with such fields.
+record ReadsAs (code : ℕ) (inst : Inst) : Type 0 where
   pub in_range : code < 2 ^ 32
   pub read : decoded code ≡ Some inst
 
@@ -30,7 +30,6 @@ s_row : (opcode funct3 rs1 rs2 : ℕ) (imm : ℤ) {inst : Inst} → opcode < 128
 s_row opcode funct3 rs1 rs2 imm o f n v row =
     let says = s_format-says opcode funct3 rs1 rs2 imm o f n.0 n.1 v in record { in_range = says.in_range; read = row _ says }
 
--- The word of a valid instruction is read as the instruction.
 reads_back : (inst : Inst) → IsValid inst → NamesRegisters inst → ReadsAs (encoding inst) inst
 unfolding decoded decoded_op_imm decoded_store decoded_system encoding
 reads_back (Lui rd imm) v n = u_row 0x37 rd imm (lit< tt) n v (λ code s. simp (s.opcode_is, s.rd_is, s.imm_is))
@@ -44,7 +43,7 @@ decoded-encoding inst valid registers = (reads_back inst valid registers).read
 pub encoding-below : (inst : Inst) → IsValid inst → NamesRegisters inst → encoding inst < 2 ^ 32
 encoding-below inst valid registers = (reads_back inst valid registers).in_range
 
--- A row of a table read from words, and the rows below it.
+-- From words to instructions and back: a row of the decoding table, and the rows below it.
 on_equal : (code a b : ℕ) (here others : Option Inst)
     → (a ≡ b → IfSome here (Spells code)) → IfSome others (Spells code) → IfSome (if a == b then here else others) (Spells code)
 on_equal code a b here others same below = ⊎_elim (λ t. rw t.0 (same t.1)) (λ t. rw t.0 below) (eqb_tells a b)
@@ -90,7 +89,6 @@ decoded-spells code below =
     (on_equal code (opcode_of code) 0x73 _ _ (λ o. system_spells code)
     tt)))
 
--- What a word that decodes to an instruction spells.
 pub decoded_is : (code : ℕ) (inst : Inst) → code < 2 ^ 32 → decoded code ≡ Some inst → Spells code inst
 decoded_is code inst below e = rw e at (decoded-spells code below)
 

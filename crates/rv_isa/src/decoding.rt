@@ -31,7 +31,11 @@ fn signed12(bits: u32) -> i32
     requires { bits < 2 ^ 12 }
     ensures { result ≡ signed12 bits }
 {
-    if bits < 2048 { bits as i32 } else { bits as i32 - 4096 }
+    if bits < 2048 {
+        bits as i32
+    } else {
+        bits as i32 - 4096
+    }
 }
 
 /// The immediate of a word of format U.
@@ -96,7 +100,10 @@ fn decode_any(code: u32) -> Option<Inst>
     ensures { result ≡ decoded code }
 {
     match field(code, 0, 7) {
-        0x37 => Some(Inst::Lui { rd: register_at(code, 7), imm: u_imm(code) }),
+        0x37 => Some(Inst::Lui {
+            rd: register_at(code, 7),
+            imm: u_imm(code),
+        }),
         0x13 => decode_op_imm(code),
         0x23 => decode_store(code),
         0x73 => decode_system(code),
@@ -118,5 +125,4 @@ pub fn decode(code: u32) -> Option<Inst>
 pub fn round_trips()
     ensures instruction { (inst : Inst) → IsValid inst → NamesRegisters inst → (encoding inst < 2 ^ 32) × (decoded (encoding inst) ≡ Some inst) }
     ensures word { (code : ℕ) → code < 2 ^ 32 → IfSome (decoded code) (Spells code) }
-{
-}
+{}

@@ -9,8 +9,9 @@ fn has_word(inst: Inst, code: u32) -> bool {
 
 #[test]
 fn format_u(rt: HostRuntime) {
-    assert!(rt; has_word(Inst::Lui { rd: Reg::new(5), imm: 0x20 }, 0x0002_02b7));
-    assert!(rt; has_word(Inst::Lui { rd: Reg::new(31), imm: 0xfffff }, 0xffff_ffb7));
+    let lui = |rd, imm| Inst::Lui { rd, imm };
+    assert!(rt; has_word(lui(Reg::new(5), 0x20), 0x0002_02b7));
+    assert!(rt; has_word(lui(Reg::new(31), 0xf_ffff), 0xffff_ffb7));
 }
 
 #[test]
