@@ -1,6 +1,5 @@
 -- The instruction table: the word of each instruction.
-use Rattle.std.specs.Prelude.{ℕ, ◌<◌, ℤ, pos, ◌≤ℤ◌, ◌<ℤ◌, negsuc}
-use Rattle.std.specs.Int.{w32, cast_unsigned}
+use Rattle.std.specs.Prelude.{ℕ, ◌≡◌, ◌<◌, ℤ, pos, ◌≤ℤ◌, ◌<ℤ◌, negsuc}
 use Rattle.rv_isa.specs.declared.inst.Inst.{Inst}
 use Rattle.rv_isa.specs.declared.inst.Inst.TheVariants.{Lui, Addi, Sb, Ecall}
 use Rattle.rv_isa.specs.Formats.{u_format, i_format, s_format}
@@ -28,8 +27,12 @@ NamesRegisters (Sb rs1 rs2 imm) = (rs1 < 32) × (rs2 < 32)
 NamesRegisters Ecall = Unit {0}
 
 -- opcode, and funct3 where the format has one
-abbrev pub encoding : Inst → ℕ
-encoding (Lui rd imm) = u_format 0x37 rd (cast_unsigned w32 imm)
+unfoldable pub encoding : Inst → ℕ
+encoding (Lui rd imm) = u_format 0x37 rd imm
 encoding (Addi rd rs1 imm) = i_format 0x13 0 rd rs1 imm
 encoding (Sb rs1 rs2 imm) = s_format 0x23 0 rs1 rs2 imm
 encoding Ecall = 0x73
+
+-- The word is the instruction's, which is one that a program can hold.
+abbrev pub Spells : ℕ → Inst → Type 0
+Spells code inst = IsValid inst × NamesRegisters inst × (encoding inst ≡ code)

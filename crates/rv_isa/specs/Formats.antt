@@ -1,5 +1,5 @@
--- The instruction formats of RV32I, as the RISC-V manual draws them, and the immediates that they hold.
-use Rattle.std.specs.Prelude.{ℕ, ◌+◌, ◌*◌, ◌/◌, ◌%◌, ◌^◌, List, [], ◌∷◌, ℤ, pos, negsuc, ◌+ℤ◌, ◌-ℤ◌}
+-- The instruction formats of RV32I, as the RISC-V manual draws them: how a word is made of its fields.
+use Rattle.std.specs.Prelude.{ℕ, ◌+◌, ◌*◌, ◌/◌, ◌%◌, ◌^◌, List, [], ◌∷◌, ℤ}
 use Rattle.std.specs.Int.{w32, cast_unsigned}
 
 -- a word made of fields from its lowest bit up, each with its width in bits
@@ -12,8 +12,8 @@ abbrev pub bits12 : ℤ → ℕ
 bits12 imm = cast_unsigned w32 imm % 2 ^ 12
 
 -- U: an immediate of twenty bits that stand for the upper ones of a word
-abbrev pub u_format : (opcode rd imm : ℕ) → ℕ
-u_format opcode rd imm = joined ((7, opcode) ∷ (5, rd) ∷ (20, imm) ∷ [])
+abbrev pub u_format : (opcode rd : ℕ) (imm : ℤ) → ℕ
+u_format opcode rd imm = joined ((7, opcode) ∷ (5, rd) ∷ (20, cast_unsigned w32 imm) ∷ [])
 
 -- I: two registers and an immediate
 abbrev pub i_format : (opcode funct3 rd rs1 : ℕ) (imm : ℤ) → ℕ

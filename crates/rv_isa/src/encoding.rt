@@ -2,7 +2,7 @@
 
 ghost use Rattle.std.specs.Prelude.{◌≡◌, ℕ, ◌<◌, ◌^◌, pos, ◌≤ℤ◌, ◌<ℤ◌};
 ghost use Rattle.rv_isa.specs.Formats.{u_format, i_format, s_format, bits12};
-ghost use Rattle.rv_isa.specs.Encoding.{IsValid, IsSigned12, encoding};
+ghost use Rattle.rv_isa.specs.Encoding.{IsValid, IsSigned12, IsUnsigned20, encoding};
 
 use crate::inst::Inst;
 use crate::reg::Reg;
@@ -17,11 +17,11 @@ fn bits12(imm: i32) -> u32
 }
 
 /// A word of format U.
-fn u_format(opcode: u32, rd: Reg, imm: u32) -> u32
-    requires { (opcode < 2 ^ 7) × (imm < 2 ^ 20) }
+fn u_format(opcode: u32, rd: Reg, imm: i32) -> u32
+    requires { (opcode < 2 ^ 7) × IsUnsigned20 imm }
     ensures { result ≡ u_format opcode rd imm }
 {
-    opcode | u32::from(rd.number()) << 7 | imm << 12
+    opcode | u32::from(rd.number()) << 7 | imm.cast_unsigned() << 12
 }
 
 /// A word of format I.
@@ -51,12 +51,13 @@ fn s_format(opcode: u32, funct3: u32, rs1: Reg, rs2: Reg, imm: i32) -> u32
 }
 
 /// The word of an instruction whose immediate is in range.
+#[tactic(auto, unfolding(crate::specs::Encoding::encoding))]
 pub fn encode(inst: Inst) -> u32
     requires { IsValid inst }
     ensures { result ≡ encoding inst }
 {
     match inst {
-        Inst::Lui { rd, imm } => u_format(0x37, rd, imm.cast_unsigned()),
+        Inst::Lui { rd, imm } => u_format(0x37, rd, imm),
         Inst::Addi { rd, rs1, imm } => i_format(0x13, 0, rd, rs1, imm),
         Inst::Sb { rs1, rs2, imm } => s_format(0x23, 0, rs1, rs2, imm),
         Inst::Ecall => 0x73,

@@ -6,8 +6,10 @@ mod decoding;
 mod encoding;
 mod inst;
 mod reg;
+#[cfg(test)]
+mod tests;
 
-pub use decoding::decode;
+pub use decoding::{decode, round_trips};
 pub use encoding::encode;
 pub use inst::Inst;
 pub use reg::Reg;
