@@ -175,8 +175,9 @@ impl Machine {
         ensures untouched { input.new ≡ input.old }
     {
         for _ in 0..n {
-            if let Step::Ended(stop) = self.step(input, out) {
-                return stop;
+            match self.step(input, out) {
+                Step::Next => {}
+                Step::Ended(stop) => return stop,
             }
         }
         Stop::Steps
