@@ -1,0 +1,4 @@
+mod Claims
+mod Execution
+mod Placement
+mod Program

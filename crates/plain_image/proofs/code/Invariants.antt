@@ -1,0 +1,8 @@
+use Rattle.std.proofs.Common.{◌≡◌, ◌++◌, take}
+use Rattle.std.specs.List.{flat_map}
+use Rattle.plain_image.specs.Code.{prologue, write_byte, spelled}
+use Rattle.plain_image.proofs.code.Given as goal
+
+-- the code of the bytes so far
+abbrev pub invariant-loop-byte : goal.invariant-loop-byte
+invariant-loop-byte l = l.code.items ≡ spelled (prologue ++ flat_map write_byte (take l.byte-index l.bytes))
