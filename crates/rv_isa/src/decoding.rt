@@ -7,6 +7,7 @@ ghost use Rattle.rv_isa.specs.Fields.{field, signed12, u_imm_of, i_imm_of, s_imm
 ghost use Rattle.rv_isa.specs.Decoding.{decoded, decoded_op_imm, decoded_store, decoded_system};
 
 use crate::inst::Inst;
+use crate::opcode;
 use crate::reg::Reg;
 
 /// The field of `width` bits whose lowest is the bit `from`.
@@ -100,13 +101,13 @@ fn decode_any(code: u32) -> Option<Inst>
     ensures { result ≡ decoded code }
 {
     match field(code, 0, 7) {
-        0x37 => Some(Inst::Lui {
+        opcode::LUI => Some(Inst::Lui {
             rd: register_at(code, 7),
             imm: u_imm(code),
         }),
-        0x13 => decode_op_imm(code),
-        0x23 => decode_store(code),
-        0x73 => decode_system(code),
+        opcode::OP_IMM => decode_op_imm(code),
+        opcode::STORE => decode_store(code),
+        opcode::SYSTEM => decode_system(code),
         _ => None,
     }
 }

@@ -5,6 +5,7 @@ ghost use Rattle.rv_isa.specs.Formats.{u_format, i_format, s_format, bits12};
 ghost use Rattle.rv_isa.specs.Encoding.{IsValid, IsSigned12, IsUnsigned20, encoding};
 
 use crate::inst::Inst;
+use crate::opcode;
 use crate::reg::Reg;
 
 /// The twelve bits of a signed immediate in two's complement.
@@ -50,16 +51,16 @@ fn s_format(opcode: u32, funct3: u32, rs1: Reg, rs2: Reg, imm: i32) -> u32
         | bits >> 5 << 25
 }
 
-/// The word of an instruction whose immediate is in range.
+/// The word of an instruction, whose immediate is in its format's range: `Inst::is_valid` says whether it is.
 #[tactic(auto, unfolding(crate::specs::Encoding::encoding))]
 pub fn encode(inst: Inst) -> u32
     requires { IsValid inst }
     ensures { result ≡ encoding inst }
 {
     match inst {
-        Inst::Lui { rd, imm } => u_format(0x37, rd, imm),
-        Inst::Addi { rd, rs1, imm } => i_format(0x13, 0, rd, rs1, imm),
-        Inst::Sb { rs1, rs2, imm } => s_format(0x23, 0, rs1, rs2, imm),
+        Inst::Lui { rd, imm } => u_format(opcode::LUI, rd, imm),
+        Inst::Addi { rd, rs1, imm } => i_format(opcode::OP_IMM, 0, rd, rs1, imm),
+        Inst::Sb { rs1, rs2, imm } => s_format(opcode::STORE, 0, rs1, rs2, imm),
         Inst::Ecall => 0x73,
     }
 }

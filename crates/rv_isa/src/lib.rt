@@ -5,6 +5,7 @@
 mod decoding;
 mod encoding;
 mod inst;
+mod opcode;
 mod reg;
 #[cfg(test)]
 mod tests;
