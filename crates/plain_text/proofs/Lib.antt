@@ -1,3 +1,5 @@
-pub mod NumberLaws
+
 pub mod CallLoop
 pub mod TokenLaws
+pub mod NumberLaws
+pub mod ProgramLaws
