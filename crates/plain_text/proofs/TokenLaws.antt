@@ -57,9 +57,10 @@ pub some_from : {A B : Type 0} (o : Option A) (f : A → Option B) (y : B) → (
 some_from None f y e = absurd cc
 some_from (Some x) f y e = (x, refl, e)
 
-pub else_some : {A : Type 0} (b : Bool) (x y : A) → cond b None (Some x) ≡ Some y → (b ≡ false) × (x ≡ y)
-else_some true x y e = absurd cc
-else_some false x y e = (refl, cc)
+-- a test that did not stop reading
+pub passed : {A : Type 0} (b : Bool) (o : Option A) (y : A) → cond b None o ≡ Some y → (b ≡ false) × (o ≡ Some y)
+passed true o y e = absurd cc
+passed false o y e = (refl, e)
 
 behind_takes : (spelling text rest : List ℕ) → behind spelling text ≡ Some rest → text ≡ spelling ++ rest
 behind_takes spelling text rest e =
@@ -77,10 +78,11 @@ unfolding token_at
 token_takes token text rest e =
     let found = some_from (behind token.spelling text) (λ after. cond (ltb (length after - length (skipped after)) token.gap) None (Some (skipped after))) rest e in
     let after = found.0 in
-    let chosen = else_some (ltb (length after - length (skipped after)) token.gap) (skipped after) rest found.2 in
+    let chosen = passed (ltb (length after - length (skipped after)) token.gap) (Some (skipped after)) rest found.2 in
+    let same : skipped after ≡ rest = same_Some (skipped after) rest chosen.1 in
     let blanks = skipped_takes after in
     let wide : token.gap ≤ length blanks.0 = omega (arith, ltb-false _ _ chosen.0, ap length blanks.1, length-append blanks.0 (skipped after)) in
-    (blanks.0, behind_takes token.spelling text after found.1 ∙ ap (λ (x : List ℕ). token.spelling ++ x) (blanks.1 ∙ ap (λ (x : List ℕ). blanks.0 ++ x) chosen.1), blanks.2, wide)
+    (blanks.0, behind_takes token.spelling text after found.1 ∙ ap (λ (x : List ℕ). token.spelling ++ x) (blanks.1 ∙ ap (λ (x : List ℕ). blanks.0 ++ x) same), blanks.2, wide)
 
 pub token_again : (token : Token) (text rest : List ℕ) → Stands token text rest → prefix_len is_blank rest ≡ 0 → token_at token text ≡ Some rest
 unfolding token_at
