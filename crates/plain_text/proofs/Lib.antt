@@ -1,4 +1,3 @@
-
 pub mod CallLoop
 pub mod TokenLaws
 pub mod NumberLaws

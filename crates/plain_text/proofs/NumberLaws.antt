@@ -1,5 +1,5 @@
 -- Decimals and the digits that spell them.
-use Rattle.std.proofs.Common.{◌≡◌, Bool, true, false, cond, ◌&&◌, leb, ℕ, zero, suc, ◌+◌, ◌^◌, ◌<◌, ◌≤◌, ◌⊎◌, inl, inr, List, [], ◌∷◌, length, take, drop, ◌++◌, get_or, Option, Some, None, Result, Ok, Err, refl, sym, ap, subst, ◌∙◌, ⊎_elim, arith, rules}
+use Rattle.std.proofs.Common.{◌≡◌, true, false, ◌&&◌, leb, ℕ, zero, suc, ◌^◌, ◌<◌, ◌≤◌, inl, inr, List, [], ◌∷◌, length, take, drop, ◌++◌, get_or, Option, Some, None, Result, Ok, Err, refl, sym, ap, subst, ◌∙◌, arith}
 use Rattle.std.specs.Fmt.{decimal}
 use Rattle.std.specs.Char.{is_ascii_digit}
 use Rattle.std.specs.Int.{IsInRange}
@@ -11,8 +11,8 @@ use Rattle.std.specs.Result.{result_ok}
 use Rattle.std.specs.Prelude.{IfSome}
 use Rattle.std.proofs.lemmas.Option.{cond_some, none-some, some_pair_parts}
 use Rattle.std.specs.Str.{IsUtf8, bytes_eq}
-use Rattle.std.specs.Str.Parse.{AllDigits, digits_value, ParsesUnsigned, without_leading_plus}
-use Rattle.std.proofs.lemmas.Fmt.{decimal_digit, first_decimal, IsAscii-decimal, decimal-digits_value, parse-decimal, decimal_is_IsNumeral, decimal_nonempty, digits_decimal}
+use Rattle.std.specs.Str.Parse.{AllDigits, digits_value, ParsesUnsigned}
+use Rattle.std.proofs.lemmas.Fmt.{decimal_digit, first_decimal, IsAscii-decimal, decimal-digits_value, decimal_is_IsNumeral, decimal_nonempty, digits_decimal}
 use Rattle.std.proofs.lemmas.Bool.{cases_lt, and_parts, leb-true, le-leb}
 use Rattle.std.proofs.lemmas.Slice.Eq.{bytes_eq-Decides}
 use Rattle.std.proofs.lemmas.Str.{IsUtf8-from_ascii}
@@ -42,10 +42,10 @@ parsed E digits n (Err e) bare small h is = absurd cc
 parsed E digits n (Ok m) bare small h is =
     let plain : (AllDigits 10 digits × (0 < length digits) × (digits_value 10 digits < 2 ^ 64)) × (m ≡ digits_value 10 digits) = parse_plain own {E = E} 64 digits (Ok m) h (λ plus. bare (inl plus)) in
     let alone : get_or digits 0 0 ≡ 48 → length digits ≡ 1 = λ zero_first.
-        elim (cases_lt 1 (length digits)) [
-          | inl more ↦ absurd (bare (inr (zero_first, more)))
-          | inr le ↦ omega (arith, plain.0.1)
-        ] in
+    elim (cases_lt 1 (length digits)) [
+      | inl more ↦ absurd (bare (inr (zero_first, more)))
+      | inr le ↦ omega (arith, plain.0.1)
+    ] in
     let m-is : m ≡ n = cc in
     let again : decimal (digits_value 10 digits) ≡ digits = decimal-digits_value own digits plain.0.0 plain.0.1 alone plain.0.2 in
     sym again ∙ ap decimal (sym plain.1 ∙ m-is)
@@ -55,8 +55,9 @@ pub byte_takes : (digits : List ℕ) (n : ℕ) → byte_of digits ≡ Some n →
 unfolding byte_of
 byte_takes digits n e =
     let chosen = cond_some (leb (digits_value 10 digits) 255 && bytes_eq digits (decimal (digits_value 10 digits))) (digits_value 10 digits) n e in
-    let tests = and_parts _ _ chosen.0 in
-    let spelled : digits ≡ decimal (digits_value 10 digits) = (bytes_eq-Decides digits (decimal (digits_value 10 digits))).0 tests.1 in
+    let value = digits_value 10 digits in
+    let tests : (leb value 255 ≡ true) × (bytes_eq digits (decimal value) ≡ true) = and_parts _ _ chosen.0 in
+    let spelled : digits ≡ decimal value = (bytes_eq-Decides digits (decimal value)).0 tests.1 in
     (omega (arith, leb-true _ _ tests.0, chosen.1), rw (← chosen.1) spelled)
 
 -- and the number is the one with these digits

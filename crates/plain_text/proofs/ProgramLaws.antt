@@ -1,21 +1,27 @@
 -- Whole programs: what is read is spelled so, and what is spelled so is read.
-use Rattle.std.proofs.Common.{◌≡◌, Bool, true, false, cond, eqb, ltb, ℕ, zero, suc, ◌+◌, ◌^◌, ◌<◌, ◌≤◌, List, [], ◌∷◌, ◌++◌, length, Option, Some, None, Result, Ok, Err, refl, sym, ap, subst, ◌∙◌, append_assoc, arith, All}
+use Rattle.std.proofs.Common.{◌≡◌, false, cond, eqb, ltb, ℕ, zero, suc, ◌^◌, ◌<◌, ◌≤◌, List, [], ◌∷◌, ◌++◌, length, Option, Some, None, Result, Ok, Err, refl, sym, ap, subst, ◌∙◌, arith}
 use Rattle.std.specs.List.{prefix_len, flat_map, AllByRecursion}
 use Rattle.std.specs.Char.{is_ascii_digit}
 use Rattle.std.specs.Fmt.{decimal}
-use Rattle.std.specs.Prelude.{codes, IfOk, unwrap_or}
+use Rattle.std.specs.Prelude.{codes, IfOk}
 use Rattle.std.proofs.lemmas.Bool.{eqb-true, ltb-false, le-ltb}
 use Rattle.std.proofs.lemmas.List.{nil_from_length}
-use Rattle.std.proofs.lemmas.List.Concat.{flat_map-cons}
 use Rattle.std.proofs.lemmas.List.Elements.{All-from_recursion, recursion_from_All}
 use Rattle.std.proofs.lemmas.Option.{cond_some, none-some, same_Some, some_pair_parts}
 use Rattle.plain_text.specs.declared.program.Program.{Program}
 use Rattle.plain_text.specs.declared.program.ReadNo.{ReadNo}
 use Rattle.plain_text.specs.declared.program.ReadNo.TheVariants as refusals
-use Rattle.plain_text.specs.Program.{IsBlank, Token, token, spaced, opening, call_of, closing, tokens_of, Spells, IsPlain, Reads}
-use Rattle.plain_text.specs.Reading.{◌>>=◌, Gives, is_blank, skipped, tokens_at, number_at, token_at, call_at, calls_at, closing_at, program_at}
-use Rattle.plain_text.proofs.TokenLaws.{Stands, spells, some_from, passed, IsSolid, AllSolid, solid-append, solid_front, skipped_takes, skipped_again, tokens_take, tokens_again}
+use Rattle.plain_text.specs.Program.{Token, token, spaced, opening, call_of, closing, Spells, IsPlain, Reads}
+use Rattle.plain_text.specs.Reading.{◌>>=◌, Gives, skipped, tokens_at, number_at, token_at, call_at, calls_at, closing_at, program_at}
+use Rattle.plain_text.proofs.TokenLaws.{spells, some_from, passed, AllSolid, solid-append, solid_front, skipped_takes, skipped_again, tokens_take, tokens_again}
 use Rattle.plain_text.proofs.NumberLaws.{decimal_solid, number_takes, number_again}
+
+-- the same, of equal parts
+same_read : (read : Option (ℕ × List ℕ)) (m n : ℕ) (rest : List ℕ) → read ≡ Some (m, rest) → m ≡ n → read ≡ Some (n, rest)
+same_read read m n rest e same = rw (← same) e
+
+same_rest : (read : Option (List ℕ)) (rest after : List ℕ) → read ≡ Some rest → rest ≡ after → read ≡ Some after
+same_rest read rest after e same = rw (← same) e
 
 -- ---- the tokens of a call, before and behind its number
 
@@ -38,8 +44,10 @@ call_takes text n rest more e spelled =
     let number = some_from (number_at front.0) (λ number. tokens_at call_back (Some number.1) >>= λ rest. Some (number.0, rest)) (n, rest) front.2 in
     let back = some_from (tokens_at call_back (Some number.0.1)) (λ rest. Some (number.0.0, rest)) (n, rest) number.2 in
     let pair = some_pair_parts number.0.0 n back.0 rest back.2 in
-    let byte = number_takes front.0 n number.0.1 (number.1 ∙ ap (λ (m : ℕ). Some (m, number.0.1)) pair.0) in
-    let spelled_back = tokens_take call_back more number.0.1 rest (back.1 ∙ ap (λ (x : List ℕ). Some x) pair.1) spelled in
+    let number_is : number_at front.0 ≡ Some (n, number.0.1) = same_read (number_at front.0) number.0.0 n number.0.1 number.1 pair.0 in
+    let back_is : tokens_at call_back (Some number.0.1) ≡ Some rest = same_rest (tokens_at call_back (Some number.0.1)) back.0 rest back.1 pair.1 in
+    let byte = number_takes front.0 n number.0.1 number_is in
+    let spelled_back = tokens_take call_back more number.0.1 rest back_is spelled in
     let spelled_number = spells (token (decimal n)) (call_back ++ more) front.0 number.0.1 byte.1 spelled_back in
     (byte.0, tokens_take call_front (token (decimal n) ∷ (call_back ++ more)) text front.0 front.1 spelled_number)
 
@@ -79,8 +87,9 @@ closing_takes text n e =
     let number = some_from (number_at front.0) (λ number. tokens_at closing_back (Some number.1) >>= λ rest. cond (eqb (length rest) 0) (Some number.0) None) n front.2 in
     let back = some_from (tokens_at closing_back (Some number.0.1)) (λ rest. cond (eqb (length rest) 0) (Some number.0.0) None) n number.2 in
     let end = cond_some (eqb (length back.0) 0) number.0.0 n back.2 in
-    let byte = number_takes front.0 n number.0.1 (number.1 ∙ ap (λ (m : ℕ). Some (m, number.0.1)) end.1) in
-    let nothing : back.0 ≡ [] = nil_from_length back.0 (eqb-true _ _ end.0) in
+    let number_is : number_at front.0 ≡ Some (n, number.0.1) = same_read (number_at front.0) number.0.0 n number.0.1 number.1 end.1 in
+    let byte = number_takes front.0 n number.0.1 number_is in
+    let nothing : back.0 ≡ [] = nil_from_length back.0 (eqb-true (length back.0) 0 end.0) in
     let spelled_back : Spells closing_back number.0.1 = tokens_take closing_back [] number.0.1 back.0 back.1 nothing in
     let spelled_number = spells (token (decimal n)) closing_back front.0 number.0.1 byte.1 spelled_back in
     (byte.0, tokens_take closing_front (token (decimal n) ∷ closing_back) text front.0 front.1 spelled_number)

@@ -100,5 +100,4 @@ pub fn read_program(alloc: Global, text: &[u8]) -> Result<Program, ReadNo>
 /// No text is that of two programs.
 pub fn one_program()
     ensures { (text : List ℕ) (p q : Program) → IsPlain text p → IsPlain text q → p ≡ q }
-{
-}
+{}

@@ -1,4 +1,4 @@
-use Rattle.std.proofs.Common.{◌≡◌, ◌^◌, ◌<◌, ℕ, arith, rules, sym, ◌∙◌}
+use Rattle.std.proofs.Common.{◌≡◌, arith, rules, sym, ◌∙◌}
 use Rattle.std.specs.Fmt.{decimal}
 use Rattle.std.proofs.lemmas.Fmt.{parse-decimal}
 use Rattle.plain_text.proofs.NumberLaws.{not_padded, decimal_utf8, parsed}
@@ -21,7 +21,7 @@ pub returns-then-number-most-clause-found : goal.returns-then-number-most-clause
 returns-then-number-most-clause-found c =
     let same : c.in_ok-ok.field-0.now ≡ c.args.digits.now = grind (arith, c.from_utf8.ensures.cases) in
     let is : c.args.digits.now ≡ decimal c.in_ok-number.number =
-        parsed _ c.args.digits.now c.in_ok-number.number c.parse.result (search rules) (omega arith) (rw same at c.parse.ensures.value.0) (sym c.ok-2.ensures.value ∙ c.in_ok-number.was) in
+    parsed _ c.args.digits.now c.in_ok-number.number c.parse.result (search rules) (omega arith) (rw same at c.parse.ensures.value.0) (sym c.ok-2.ensures.value ∙ c.in_ok-number.was) in
     (c.if-number-most.true, is)
 
 pub returns-then-number-most-clause-only : goal.returns-then-number-most-clause-only

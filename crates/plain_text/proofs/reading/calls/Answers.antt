@@ -1,4 +1,4 @@
-use Rattle.std.proofs.Common.{◌≡◌, ℕ, ◌++◌, ◌∷◌, [], Some, None, arith}
+use Rattle.std.proofs.Common.{◌≡◌, Some}
 use Rattle.plain_text.specs.Reading.{call_at, calls_at}
 use Rattle.plain_text.proofs.CallLoop.{goes_on, stops, is_full}
 use Rattle.plain_text.proofs.reading.calls.Goals.{else-loop-test, then-loop-test+in_default}
