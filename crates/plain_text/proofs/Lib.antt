@@ -1,0 +1,4 @@
+pub mod CallLoop
+pub mod TokenLaws
+pub mod NumberLaws
+pub mod ProgramLaws
