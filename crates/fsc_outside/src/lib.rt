@@ -4,10 +4,18 @@
 //! terminal, its calls are known by their counts alone.
 #![tactic(auto)]
 
+mod fault_plan;
+mod file_table;
 mod files;
+mod memory_files;
+mod memory_sink;
+mod memory_source;
 mod sink;
 mod source;
 
 pub use files::{Files, Got, Put};
+pub use memory_files::MemFiles;
+pub use memory_sink::MemSink;
+pub use memory_source::MemSource;
 pub use sink::{Gave, Sink, Wrote, write_whole};
 pub use source::{Source, Took};
