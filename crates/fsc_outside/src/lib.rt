@@ -25,3 +25,6 @@ pub use memory_source::MemSource;
 pub use output_sink::OutputSink;
 pub use sink::{Gave, Sink, Wrote, write_whole};
 pub use source::{Source, Took};
+
+#[cfg(test)]
+mod tests;
