@@ -1,10 +1,10 @@
 -- What the objects in memory hold, answer and hold then.
-use Rattle.std.specs.Prelude.{ℕ, ◌==◌, min, if◌then◌else◌, List, ◌++◌, length, refl, take, drop, fold, Option, Some, None}
+use Rattle.std.specs.Prelude.{ℕ, ◌==◌, min, if◌then◌else◌, List, [], ◌++◌, length, refl, take, drop, fold, Option, Some, None}
 use Rattle.std.specs.FinMap as map
 use Rattle.std.specs.Coded.{Coded, code_by, coded×, coded_ℕ, coded_list}
 use Rattle.fsc_outside.specs.Counts.{one_more}
 use Rattle.fsc_outside.specs.FileMap.{FileMap, file_map_code, file_of}
-use Rattle.fsc_outside.specs.Plan.{Plan, plan_code, fails_next, with_call, with_fault}
+use Rattle.fsc_outside.specs.Plan.{Plan, plan_code, unused, fails_next, with_call, with_fault}
 use Rattle.fsc_outside.specs.declared.files.Got.{Got}
 use Rattle.fsc_outside.specs.declared.files.Got.TheVariants as got
 use Rattle.fsc_outside.specs.declared.files.Put.{Put}
@@ -21,6 +21,10 @@ pub record SourceState : Type 0 where
   pub left : List ℕ
   pub most : ℕ
   pub plan : Plan
+
+-- a source of these bytes, whose calls with the numbers in `fail` fail
+abbrev pub new_source : List ℕ → ℕ → List ℕ → SourceState
+new_source bytes most fail = record { left = bytes; most = most; plan = unused fail }
 
 -- the answer of a read into a buffer of `room` bytes
 abbrev pub took_by : SourceState → ℕ → Took
@@ -48,6 +52,10 @@ pub record SinkState : Type 0 where
   pub written : List ℕ
   pub most : ℕ
   pub plan : Plan
+
+-- a sink with nothing in it, whose calls with the numbers in `fail` fail
+abbrev pub new_sink : ℕ → List ℕ → SinkState
+new_sink most fail = record { written = []; most = most; plan = unused fail }
 
 -- the answer of a write of a piece of `size` bytes, where memory suffices
 abbrev pub gave_by : SinkState → ℕ → Gave
@@ -78,6 +86,11 @@ files_state_code =
 abbrev pub files_of : List (List ℕ × List ℕ) → FileMap
 files_of pairs = fold (λ files pair. map.insert files pair.0 pair.1) map.empty pairs
 
+-- the files of these pairs, where the calls with the numbers in `fail` fail
+abbrev pub new_files : List (List ℕ × List ℕ) → List ℕ → FilesState
+new_files pairs fail = record { files = files_of pairs; blamed = []; absences = 0; plan = unused fail }
+
+-- the answer of a read that finds these bytes, or no file
 abbrev pub got_where : Option (List ℕ) → Got
 got_where None = got.Absent
 got_where (Some bytes) = got.Found bytes

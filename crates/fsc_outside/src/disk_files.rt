@@ -1,6 +1,6 @@
 //! The files of the system.
 
-ghost use Rattle.std.specs.Prelude.{◌≡◌, ◌≢◌, ℕ, ◌+◌, ◌^◌, ◌<◌, ◌≤◌, List, [], Option, Some, None, IsSome};
+ghost use Rattle.std.specs.Prelude.{◌≡◌, ◌≢◌, ◌≤◌, [], Some, None};
 ghost use Rattle.fsc_outside.specs.Counts.{Rose, Counts, counts_after_got, counts_after_put};
 ghost use Rattle.fsc_outside.specs.FileMap.{Holds, Replaces, KeepsOthers, IfFound};
 
@@ -111,6 +111,7 @@ impl<R: System> Files for DiskFiles<R> {
 
         // Exactly.
         ensures after { self.new ≡ counts_after_put self.old result }
+        ensures never_refused { result ≢ Put.NoMemory }
     {
         match write_file(&self.system, name.as_slice(), bytes) {
             Ok(()) => Put::Done,

@@ -1,9 +1,9 @@
 //! Bytes by name, in the names' order.
 
-ghost use Rattle.std.specs.Prelude.{◌≡◌, List, ℕ, OnOk, OnErr};
+ghost use Rattle.std.specs.Prelude.{◌≡◌, OnOk, OnErr};
 ghost use Rattle.std.specs.Option.{option_map};
 ghost use Rattle.std.specs.FinMap as map;
-ghost use Rattle.fsc_outside.specs.FileMap.{FileMap, file_of};
+ghost use Rattle.fsc_outside.specs.FileMap.{file_of};
 
 use fsc_base::{Bytes, NoMemory};
 use std::alloc::Global;

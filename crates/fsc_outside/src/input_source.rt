@@ -1,6 +1,6 @@
 //! A source over a reader of the system.
 
-ghost use Rattle.std.specs.Prelude.{◌≡◌, ℕ, ◌+◌, ◌^◌, ◌<◌, ◌≤◌, List, Option, None, length};
+ghost use Rattle.std.specs.Prelude.{◌≡◌, ℕ, ◌<◌, ◌≤◌, None, length};
 ghost use Rattle.std.specs.Io.{ReadsAtMost};
 ghost use Rattle.fsc_outside.specs.Counts.{Rose, faults_after_took};
 ghost use Rattle.fsc_outside.specs.Streams.{Takes, AtEnd, taken_of, IfTook};

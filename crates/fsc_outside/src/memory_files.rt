@@ -1,11 +1,10 @@
 //! Files in memory.
 
-ghost use Rattle.std.specs.Prelude.{◌≡◌, ◌≢◌, ◌⊎◌, ℕ, ◌+◌, ◌^◌, ◌<◌, ◌≤◌, List, [], Option, Some, None, IsSome, IsTrue, IfOk, OnOk, OnErr};
+ghost use Rattle.std.specs.Prelude.{◌≡◌, ◌⊎◌, ◌≤◌, Some, None, IfOk, OnOk, OnErr};
 ghost use Rattle.std.specs.Option.{option_map};
 ghost use Rattle.fsc_outside.specs.Counts.{Rose};
-ghost use Rattle.fsc_outside.specs.FileMap.{FileMap, file_of, Holds, Replaces, KeepsOthers, IfFound};
-ghost use Rattle.fsc_outside.specs.Memory.{FilesState, files_of, got_by, after_got, put_by, after_put, blaming};
-ghost use Rattle.fsc_outside.specs.Plan.{unused, fails_next};
+ghost use Rattle.fsc_outside.specs.FileMap.{file_of, Holds, Replaces, KeepsOthers, IfFound};
+ghost use Rattle.fsc_outside.specs.Memory.{new_files, files_of, got_by, after_got, put_by, after_put, blaming};
 
 use crate::fault_plan::FaultPlan;
 use crate::file_table::FileTable;
@@ -39,7 +38,7 @@ impl MemFiles {
     /// Files with a copy of each pair of a name and its bytes, where of several pairs with one name the last counts. The
     /// calls with the numbers in `fail` fail, counted from 1. Refused only for want of memory.
     pub fn new(alloc: Global, pairs: &[(Name, Bytes)], fail: &[u64]) -> Result<MemFiles, NoMemory>
-        ensures { IfOk result (λ f. f ≡ record { files = files_of pairs.now; blamed = []; absences = 0; plan = unused fail.now }) }
+        ensures { IfOk result (λ files. files ≡ new_files pairs.now fail.now) }
     {
         Ok(MemFiles {
             alloc,
@@ -110,8 +109,9 @@ impl Files for MemFiles {
         ensures faults_counted { self.old.plan.faults ≤ self.new.plan.faults }
         ensures absences_counted { self.old.absences ≤ self.new.absences }
 
-        // Exactly, where memory suffices.
+        // Exactly, where memory suffices; of a file that is not there always.
         ensures got { (result ≡ got_by self.old name.now) ⊎ (result ≡ Got.NoMemory) }
+        ensures absent_told { got_by self.old name.now ≡ Got.Absent → result ≡ Got.Absent }
         ensures after { self.new ≡ after_got self.old name.now result }
     {
         if self.plan.begin_call() {

@@ -1,9 +1,9 @@
 //! A sink into memory.
 
-ghost use Rattle.std.specs.Prelude.{◌≡◌, ◌⊎◌, ℕ, ◌+◌, ◌^◌, ◌<◌, ◌≤◌, List, [], Option, Some, length, IsTrue, IfOk};
+ghost use Rattle.std.specs.Prelude.{◌≡◌, ◌⊎◌, ◌<◌, ◌≤◌, Some, length, IsTrue, IfOk};
 ghost use Rattle.fsc_outside.specs.Counts.{Rose};
-ghost use Rattle.fsc_outside.specs.Memory.{SinkState, gave_by, after_gave};
-ghost use Rattle.fsc_outside.specs.Plan.{unused, fails_next};
+ghost use Rattle.fsc_outside.specs.Memory.{SinkState, new_sink, gave_by, after_gave};
+ghost use Rattle.fsc_outside.specs.Plan.{fails_next};
 ghost use Rattle.fsc_outside.specs.Streams.{Appends, given_of, IfGave};
 
 use crate::fault_plan::FaultPlan;
@@ -33,7 +33,7 @@ impl MemSink {
     /// A sink with nothing in it, whose calls with the numbers in `fail` fail, counted from 1. Each other call writes
     /// the whole piece, or nothing where memory is refused. Refused only for want of memory.
     pub fn new(alloc: Global, fail: &[u64]) -> Result<MemSink, NoMemory>
-        ensures { IfOk result (λ sink. sink ≡ record { written = []; most = usize.MAX; plan = unused fail.now }) }
+        ensures { IfOk result (λ sink. sink ≡ new_sink usize.MAX fail.now) }
     {
         Ok(MemSink {
             bytes: Vec::new(alloc),
@@ -45,7 +45,7 @@ impl MemSink {
     /// The same, where a call writes at most `most` bytes.
     pub fn slow(alloc: Global, fail: &[u64], most: u32) -> Result<MemSink, NoMemory>
         requires { 0 < most }
-        ensures { IfOk result (λ sink. sink ≡ record { written = []; most = most; plan = unused fail.now }) }
+        ensures { IfOk result (λ sink. sink ≡ new_sink most fail.now) }
     {
         Ok(MemSink {
             bytes: Vec::new(alloc),

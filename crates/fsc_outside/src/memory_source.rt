@@ -1,9 +1,8 @@
 //! A source of bytes that the program holds.
 
-ghost use Rattle.std.specs.Prelude.{◌≡◌, ℕ, ◌+◌, ◌^◌, ◌<◌, ◌≤◌, List, Option, Some, length, drop, IfOk};
+ghost use Rattle.std.specs.Prelude.{◌≡◌, ◌<◌, ◌≤◌, Some, length, drop, IfOk};
 ghost use Rattle.fsc_outside.specs.Counts.{Rose};
-ghost use Rattle.fsc_outside.specs.Memory.{SourceState, took_by, after_took, filled_by};
-ghost use Rattle.fsc_outside.specs.Plan.{unused};
+ghost use Rattle.fsc_outside.specs.Memory.{SourceState, new_source, took_by, after_took, filled_by};
 ghost use Rattle.fsc_outside.specs.Streams.{Takes, AtEnd, taken_of, IfTook};
 
 use crate::fault_plan::FaultPlan;
@@ -34,7 +33,7 @@ impl MemSource {
     /// A source of a copy of `bytes`, whose calls with the numbers in `fail` fail, counted from 1. Each other call
     /// moves as many bytes as fit. Refused only for want of memory.
     pub fn new(alloc: Global, bytes: &[u8], fail: &[u64]) -> Result<MemSource, NoMemory>
-        ensures { IfOk result (λ source. source ≡ record { left = bytes.now; most = usize.MAX; plan = unused fail.now }) }
+        ensures { IfOk result (λ source. source ≡ new_source bytes.now usize.MAX fail.now) }
     {
         Ok(MemSource {
             bytes: Vec::from_slice(alloc, bytes)?,
@@ -47,7 +46,7 @@ impl MemSource {
     /// The same, where a call moves at most `most` bytes.
     pub fn slow(alloc: Global, bytes: &[u8], fail: &[u64], most: u32) -> Result<MemSource, NoMemory>
         requires { 0 < most }
-        ensures { IfOk result (λ source. source ≡ record { left = bytes.now; most = most; plan = unused fail.now }) }
+        ensures { IfOk result (λ source. source ≡ new_source bytes.now most fail.now) }
     {
         Ok(MemSource {
             bytes: Vec::from_slice(alloc, bytes)?,

@@ -1,6 +1,6 @@
 //! A sink over a writer of the system.
 
-ghost use Rattle.std.specs.Prelude.{◌≡◌, ℕ, ◌+◌, ◌^◌, ◌<◌, ◌≤◌, List, Option, None, length};
+ghost use Rattle.std.specs.Prelude.{◌≡◌, ◌≢◌, ℕ, ◌<◌, ◌≤◌, None, length};
 ghost use Rattle.std.specs.Io.{WritesAtMost};
 ghost use Rattle.fsc_outside.specs.Counts.{Rose, faults_after_gave};
 ghost use Rattle.fsc_outside.specs.Streams.{Appends, given_of, IfGave};
@@ -53,6 +53,7 @@ impl<W: Write> Sink for OutputSink<W> {
 
         // Exactly.
         ensures after { self.new ≡ faults_after_gave self.old result }
+        ensures never_refused { result ≢ Gave.NoMemory }
     {
         match write_once(&mut self.writer, piece) {
             Ok(n) if n > 0 => Gave::Moved(n),
