@@ -1,2 +1,4 @@
 pub mod Appending
+pub mod Named
+pub mod Taken
 pub mod Written

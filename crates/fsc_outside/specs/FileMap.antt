@@ -3,12 +3,17 @@ use Rattle.std.specs.Prelude.{◌≡◌, ◌≢◌, ℕ, List, Option, Some, Non
 use Rattle.std.specs.Ordering.{nat_cmp}
 use Rattle.std.specs.Cmp.Lexicographic.{slice_cmp}
 use Rattle.std.specs.FinMap as map
+use Rattle.std.specs.Coded.{Coded, coded_ℕ, coded_list}
 use Rattle.fsc_outside.specs.declared.files.Got.{Got}
 use Rattle.fsc_outside.specs.declared.files.Got.TheVariants as got
 
 -- from names to the bytes of the file
 abbrev pub FileMap : Type 0
 FileMap = map.FinMap (slice_cmp nat_cmp) (List ℕ)
+
+-- it is stored as its entries
+abbrev pub file_map_code : Coded FileMap
+file_map_code = map.code (coded_list coded_ℕ) (coded_list coded_ℕ)
 
 -- the bytes of a file, where there is one
 abbrev pub file_of : FileMap → List ℕ → Option (List ℕ)
