@@ -1,0 +1,7 @@
+//! The compiler as a program.
+#![tactic(auto)]
+
+mod ending;
+mod words;
+
+fn main() {}
