@@ -18,7 +18,7 @@ use Rattle.std.proofs.lemmas.Slice.Eq.{bytes_eq-Decides}
 use Rattle.std.proofs.lemmas.Str.{IsUtf8-from_ascii}
 use Rattle.std.proofs.lemmas.Str.Parse.{IsNumeralModel, numerals_by_value, tells_digits, tells_by_index, parse_plain}
 use Rattle.plain_text.specs.Reading.{IsPadded, is_blank, skipped, byte_of, number_at}
-use Rattle.plain_text.specs.Program.{IsBlank, token}
+use Rattle.plain_text.specs.Program.{IsBlank, tight}
 use Rattle.plain_text.proofs.TokenLaws.{Stands, IsSolid, some_from, skipped_takes, skipped_again, prefix_len-append}
 
 pub own : IsNumeralModel (AllDigits 10) (digits_value 10)
@@ -100,14 +100,14 @@ digits_solid [] others digits some = absurd (omega arith)
 digits_solid (c ∷ cs) others digits some = rw (digit_not_blank c (All-head (λ c. is_ascii_digit c ≡ true) c cs digits)) refl
 
 -- no blank is in front of a number
-pub decimal_solid : (n : ℕ) → n < 2 ^ 64 → IsSolid (token (decimal n))
+pub decimal_solid : (n : ℕ) → n < 2 ^ 64 → IsSolid (tight (decimal n))
 decimal_solid n small = λ others. digits_solid (decimal n) others (decimal_digits n small) (decimal_nonempty n small)
 
 blanks_no_digit : (blanks rest : List ℕ) → All IsBlank blanks → prefix_len is_ascii_digit rest ≡ 0 → prefix_len is_ascii_digit (blanks ++ rest) ≡ 0
 blanks_no_digit [] rest all none = none
 blanks_no_digit (c ∷ cs) rest all none = rw (blank_no_digit c (All-head IsBlank c cs all)) refl
 
-pub number_takes : (text : List ℕ) (n : ℕ) (rest : List ℕ) → number_at text ≡ Some (n, rest) → (n < 256) × Stands (token (decimal n)) text rest
+pub number_takes : (text : List ℕ) (n : ℕ) (rest : List ℕ) → number_at text ≡ Some (n, rest) → (n < 256) × Stands (tight (decimal n)) text rest
 unfolding number_at
 number_takes text n rest e =
     let count = prefix_len is_ascii_digit text in
@@ -119,7 +119,7 @@ number_takes text n rest e =
     let parts : text ≡ decimal n ++ (blanks.0 ++ rest) = sym (take-append-drop count text) ∙ ap (λ (x : List ℕ). x ++ drop count text) byte.1 ∙ ap (λ (x : List ℕ). decimal n ++ x) behind in
     (byte.0, (blanks.0, parts, blanks.2, omega arith))
 
-pub number_again : (text : List ℕ) (n : ℕ) (rest : List ℕ) → n < 256 → Stands (token (decimal n)) text rest → prefix_len is_blank rest ≡ 0 → prefix_len is_ascii_digit rest ≡ 0 → number_at text ≡ Some (n, rest)
+pub number_again : (text : List ℕ) (n : ℕ) (rest : List ℕ) → n < 256 → Stands (tight (decimal n)) text rest → prefix_len is_blank rest ≡ 0 → prefix_len is_ascii_digit rest ≡ 0 → number_at text ≡ Some (n, rest)
 unfolding number_at
 number_again text n rest small stands no_blank no_digit =
     let run = prefix_len-append is_ascii_digit (decimal n) (stands.0 ++ rest) (decimal_digits n (omega arith)) (blanks_no_digit stands.0 rest stands.2 no_digit) in

@@ -11,7 +11,7 @@ use Rattle.std.proofs.lemmas.Option.{cond_some, none-some, same_Some, some_pair_
 use Rattle.plain_text.specs.declared.program.Program.{Program}
 use Rattle.plain_text.specs.declared.program.ReadNo.{ReadNo}
 use Rattle.plain_text.specs.declared.program.ReadNo.TheVariants as refusals
-use Rattle.plain_text.specs.Program.{Token, token, spaced, opening, call_of, closing, Spells, IsPlain, Reads}
+use Rattle.plain_text.specs.Program.{Token, tight, spaced, opening, call_of, closing, Spells, IsPlain, Reads}
 use Rattle.plain_text.specs.Reading.{◌>>=◌, Gives, skipped, tokens_at, number_at, token_at, call_at, calls_at, closing_at, program_at}
 use Rattle.plain_text.proofs.TokenLaws.{spells, some_from, passed, AllSolid, solid-append, solid_front, skipped_takes, skipped_again, tokens_take, tokens_again}
 use Rattle.plain_text.proofs.NumberLaws.{decimal_solid, number_takes, number_again}
@@ -26,10 +26,10 @@ same_rest read rest after e same = rw (← same) e
 -- ---- the tokens of a call, before and behind its number
 
 abbrev call_front : List Token
-call_front = token (codes "putchar") ∷ token (codes "(") ∷ []
+call_front = tight (codes "putchar") ∷ tight (codes "(") ∷ []
 
 abbrev call_back : List Token
-call_back = token (codes ")") ∷ token (codes ";") ∷ []
+call_back = tight (codes ")") ∷ tight (codes ";") ∷ []
 
 solid_front_of_call : AllSolid call_front
 solid_front_of_call = (λ others. refl, (λ others. refl, tt))
@@ -48,14 +48,14 @@ call_takes text n rest more e spelled =
     let back_is : tokens_at call_back (Some number.0.1) ≡ Some rest = same_rest (tokens_at call_back (Some number.0.1)) back.0 rest back.1 pair.1 in
     let byte = number_takes front.0 n number.0.1 number_is in
     let spelled_back = tokens_take call_back more number.0.1 rest back_is spelled in
-    let spelled_number = spells (token (decimal n)) (call_back ++ more) front.0 number.0.1 byte.1 spelled_back in
-    (byte.0, tokens_take call_front (token (decimal n) ∷ (call_back ++ more)) text front.0 front.1 spelled_number)
+    let spelled_number = spells (tight (decimal n)) (call_back ++ more) front.0 number.0.1 byte.1 spelled_back in
+    (byte.0, tokens_take call_front (tight (decimal n) ∷ (call_back ++ more)) text front.0 front.1 spelled_number)
 
 call_again : (text : List ℕ) (n : ℕ) (more : List Token) → n < 256 → AllSolid more → Spells (call_of n ++ more) text → (rest : List ℕ) × (call_at text ≡ Some (n, rest)) × Spells more rest
 unfolding call_at
 call_again text n more small solid spelled =
     let behind_solid = solid-append call_back more solid_back_of_call solid in
-    let front = tokens_again call_front (token (decimal n) ∷ (call_back ++ more)) text solid_front_of_call (decimal_solid n (omega arith), behind_solid) spelled in
+    let front = tokens_again call_front (tight (decimal n) ∷ (call_back ++ more)) text solid_front_of_call (decimal_solid n (omega arith), behind_solid) spelled in
     let number = front.2 in
     let rest = number.1 in
     let no_digit : prefix_len is_ascii_digit rest ≡ 0 = rw number.5.2 refl in
@@ -69,7 +69,7 @@ abbrev closing_front : List Token
 closing_front = spaced (codes "return") ∷ []
 
 abbrev closing_back : List Token
-closing_back = token (codes ";") ∷ token (codes "}") ∷ []
+closing_back = tight (codes ";") ∷ tight (codes "}") ∷ []
 
 solid_front_of_closing : AllSolid closing_front
 solid_front_of_closing = (λ others. refl, tt)
@@ -91,13 +91,13 @@ closing_takes text n e =
     let byte = number_takes front.0 n number.0.1 number_is in
     let nothing : back.0 ≡ [] = nil_from_length back.0 (eqb-true (length back.0) 0 end.0) in
     let spelled_back : Spells closing_back number.0.1 = tokens_take closing_back [] number.0.1 back.0 back.1 nothing in
-    let spelled_number = spells (token (decimal n)) closing_back front.0 number.0.1 byte.1 spelled_back in
-    (byte.0, tokens_take closing_front (token (decimal n) ∷ closing_back) text front.0 front.1 spelled_number)
+    let spelled_number = spells (tight (decimal n)) closing_back front.0 number.0.1 byte.1 spelled_back in
+    (byte.0, tokens_take closing_front (tight (decimal n) ∷ closing_back) text front.0 front.1 spelled_number)
 
 closing_again : (text : List ℕ) (n : ℕ) → n < 256 → Spells (closing n) text → closing_at text ≡ Some n
 unfolding closing_at
 closing_again text n small spelled =
-    let front = tokens_again closing_front (token (decimal n) ∷ closing_back) text solid_front_of_closing (decimal_solid n (omega arith), solid_back_of_closing) spelled in
+    let front = tokens_again closing_front (tight (decimal n) ∷ closing_back) text solid_front_of_closing (decimal_solid n (omega arith), solid_back_of_closing) spelled in
     let number = front.2 in
     let rest = number.1 in
     let no_digit : prefix_len is_ascii_digit rest ≡ 0 = rw number.5.2 refl in
@@ -142,7 +142,7 @@ solid_calls : (bytes : List ℕ) (n : ℕ) → AllBytes bytes → n < 256 → Al
 solid_calls [] n all small = solid_closing n small
 solid_calls (b ∷ bytes) n all small =
     let others = solid-append call_back (flat_map call_of bytes ++ closing n) solid_back_of_call (solid_calls bytes n all.1 small) in
-    solid-append call_front (token (decimal b) ∷ (call_back ++ (flat_map call_of bytes ++ closing n))) solid_front_of_call (decimal_solid b (omega (arith, all.0)), others)
+    solid-append call_front (tight (decimal b) ∷ (call_back ++ (flat_map call_of bytes ++ closing n))) solid_front_of_call (decimal_solid b (omega (arith, all.0)), others)
 
 -- the calls in front of the closing are read
 record ReadsCalls (bytes : List ℕ) (n : ℕ) (read : List ℕ × List ℕ) : Type 0 where

@@ -16,8 +16,8 @@ pub record Token : Type 0 where
   pub gap : ℕ
 
 -- a token behind which no blank need stand
-abbrev pub token : List ℕ → Token
-token spelling = record { spelling = spelling; gap = 0 }
+abbrev pub tight : List ℕ → Token
+tight spelling = record { spelling = spelling; gap = 0 }
 
 -- a token behind which a blank must stand
 abbrev pub spaced : List ℕ → Token
@@ -25,15 +25,15 @@ spaced spelling = record { spelling = spelling; gap = 1 }
 
 -- int main ( void ) {
 abbrev pub opening : List Token
-opening = spaced (codes "int") ∷ token (codes "main") ∷ token (codes "(") ∷ token (codes "void") ∷ token (codes ")") ∷ token (codes "{") ∷ []
+opening = spaced (codes "int") ∷ tight (codes "main") ∷ tight (codes "(") ∷ tight (codes "void") ∷ tight (codes ")") ∷ tight (codes "{") ∷ []
 
 -- putchar ( NUM ) ;
 abbrev pub call_of : ℕ → List Token
-call_of n = token (codes "putchar") ∷ token (codes "(") ∷ token (decimal n) ∷ token (codes ")") ∷ token (codes ";") ∷ []
+call_of n = tight (codes "putchar") ∷ tight (codes "(") ∷ tight (decimal n) ∷ tight (codes ")") ∷ tight (codes ";") ∷ []
 
 -- return NUM ; }
 abbrev pub closing : ℕ → List Token
-closing n = spaced (codes "return") ∷ token (decimal n) ∷ token (codes ";") ∷ token (codes "}") ∷ []
+closing n = spaced (codes "return") ∷ tight (decimal n) ∷ tight (codes ";") ∷ tight (codes "}") ∷ []
 
 -- int main ( void ) { calls return NUM ; }
 abbrev pub tokens_of : Program → List Token

@@ -8,7 +8,7 @@ use Rattle.std.specs.Fmt.{decimal}
 use Rattle.plain_text.specs.declared.program.Program.{Program}
 use Rattle.plain_text.specs.declared.program.ReadNo.{ReadNo}
 use Rattle.plain_text.specs.declared.program.ReadNo.TheVariants.{NotPlain, NoMemory}
-use Rattle.plain_text.specs.Program.{Token, token, spaced, opening}
+use Rattle.plain_text.specs.Program.{Token, tight, spaced, opening}
 
 infixl 10 ◌>>=◌
 abbrev pub ◌>>=◌ : {A B : Type 0} → Option A → (A → Option B) → Option B
@@ -62,11 +62,12 @@ number_at text = do
   n ← byte_of (take (prefix_len is_ascii_digit text) text)
   Some (n, skipped (drop (prefix_len is_ascii_digit text) text))
 
+-- the number in a call, and the text behind it
 unfoldable pub call_at : List ℕ → Option (ℕ × List ℕ)
 call_at text = do
-  inner ← tokens_at (token (codes "putchar") ∷ token (codes "(") ∷ []) (Some text)
+  inner ← tokens_at (tight (codes "putchar") ∷ tight (codes "(") ∷ []) (Some text)
   number ← number_at inner
-  rest ← tokens_at (token (codes ")") ∷ token (codes ";") ∷ []) (Some number.1)
+  rest ← tokens_at (tight (codes ")") ∷ tight (codes ";") ∷ []) (Some number.1)
   Some (number.0, rest)
 
 -- the numbers in the calls, at most so many, and the text behind them
@@ -74,11 +75,12 @@ unfoldable pub calls_at : ℕ → List ℕ → List ℕ × List ℕ
 calls_at zero text = ([], text)
 calls_at (suc most) text = unwrap_or (call_at text >>= λ call. Some (call.0 ∷ (calls_at most call.1).0, (calls_at most call.1).1)) ([], text)
 
+-- the number that is returned, where nothing stands behind the closing
 unfoldable pub closing_at : List ℕ → Option ℕ
 closing_at text = do
   inner ← tokens_at (spaced (codes "return") ∷ []) (Some text)
   number ← number_at inner
-  rest ← tokens_at (token (codes ";") ∷ token (codes "}") ∷ []) (Some number.1)
+  rest ← tokens_at (tight (codes ";") ∷ tight (codes "}") ∷ []) (Some number.1)
   if length rest == 0 then Some number.0 else None
 
 -- all of the text

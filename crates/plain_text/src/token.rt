@@ -1,9 +1,9 @@
 //! Tokens and the blanks behind them.
 
 ghost use Rattle.std.specs.Prelude.{◌≡◌, ◌≤◌, length};
+ghost use Rattle.std.specs.List.{prefix_len};
 ghost use Rattle.plain_text.specs.Program.{Token};
 ghost use Rattle.plain_text.specs.Reading.{Finds, is_blank, skipped, token_at};
-ghost use Rattle.std.specs.List.{prefix_len};
 
 /// Whether it is a space, a tab or a line feed.
 fn is_blank(c: u8) -> bool
