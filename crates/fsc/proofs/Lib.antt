@@ -1,0 +1,4 @@
+mod Asking
+mod Performing
+mod Promises
+mod Refusing

@@ -1,2 +1,4 @@
 pub mod Ending
+pub mod Performing
+pub mod Tool
 pub mod Words

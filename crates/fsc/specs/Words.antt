@@ -1,21 +1,26 @@
 -- The words of the command line.
-use Rattle.std.specs.Prelude.{◌≡◌, ◌≢◌, ℕ, ◌^◌, ◌<◌, ◌≤◌, ◌⊎◌, List, [], ◌∷◌, length, All, Contains, Some, slice_get, codes}
+use Rattle.std.specs.Prelude.{◌≡◌, ◌≢◌, ℕ, ◌^◌, ◌<◌, ◌≤◌, ◌⊎◌, List, [], ◌∷◌, length, All, Some, slice_get, codes}
 use Rattle.std.specs.Str.{IsUtf8}
 use Rattle.std.specs.Fmt.{decimal}
 
 -- the six commands
-abbrev pub commands : List (List ℕ)
-commands = codes "build" ∷ codes "compile" ∷ codes "link" ∷ codes "run" ∷ codes "go" ∷ codes "demo" ∷ []
+abbrev pub IsCommand : List ℕ → Type 0
+IsCommand word = (word ≡ codes "build") ⊎ ((word ≡ codes "compile") ⊎ ((word ≡ codes "link") ⊎
+    ((word ≡ codes "run") ⊎ ((word ≡ codes "go") ⊎ (word ≡ codes "demo")))))
 
 -- the first word is a command
 abbrev pub BeginsWithCommand : List (List ℕ) → Type 0
 BeginsWithCommand [] = ⊥
-BeginsWithCommand (word ∷ words) = Contains commands word
+BeginsWithCommand (word ∷ words) = IsCommand word
+
+-- a word is UTF-8
+unfoldable pub IsText : List ℕ → Type 0
+IsText word = IsUtf8 word
 
 -- at most 1,000 words, each of them text, and a command first
 pub record IsUsable (words : List (List ℕ)) : Type 0 where
   pub few : length words ≤ 1000
-  pub texts : All IsUtf8 words
+  pub texts : All IsText words
   pub command : BeginsWithCommand words
 
 -- a name of a file doesn't begin as an option does

@@ -2,6 +2,9 @@
 #![tactic(auto)]
 
 mod ending;
+mod go;
+mod note;
+mod tool;
 mod words;
 
 fn main() {}

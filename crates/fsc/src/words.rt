@@ -1,9 +1,8 @@
 //! The words of the command line.
 
-ghost use Rattle.std.specs.Prelude.{◌≡◌, ℕ, ◌<◌, ◌≤◌, ◌↔◌, Contains, IsTrue, IfSome, IfNone, Some};
-ghost use Rattle.std.specs.Str.{IsUtf8};
+ghost use Rattle.std.specs.Prelude.{◌≡◌, ℕ, List, ◌<◌, ◌≤◌, ◌↔◌, All, IsTrue, IfSome, IfNone, Some};
 ghost use Rattle.std.specs.Fmt.{decimal};
-ghost use Rattle.fsc.specs.Words.{commands, BeginsWithCommand, IsUsable, IsFileWord, most_steps, Asks};
+ghost use Rattle.fsc.specs.Words.{IsCommand, BeginsWithCommand, IsText, IsUsable, IsFileWord, most_steps, Asks};
 
 use fsc_base::Name;
 use plain_text::decimal_number;
@@ -26,16 +25,24 @@ pub struct Request<'a> {
 
 /// Whether a word is one of the six commands.
 fn is_command(word: &[u8]) -> bool
-    ensures { IsTrue result ↔ Contains commands word.now }
+    ensures { IsTrue result ↔ IsCommand word.now }
 {
     matches!(word, b"build" | b"compile" | b"link" | b"run" | b"go" | b"demo")
 }
 
-/// Whether a word is text.
+/// Whether a word is UTF-8.
+#[tactic(auto, unfolding(crate::specs::Words::IsText))]
 fn is_text(word: &[u8]) -> bool
-    ensures { IsTrue result ↔ IsUtf8 word.now }
+    ensures { IsTrue result ↔ IsText word.now }
 {
     str::from_utf8(word).is_ok()
+}
+
+/// Whether all words are UTF-8.
+fn are_texts(words: &[Name]) -> bool
+    ensures { IsTrue result ↔ All IsText words.now }
+{
+    words.iter().all(|word| is_text(word.as_slice()))
 }
 
 /// Whether the first word is a command.
@@ -52,7 +59,14 @@ fn begins_with_command(words: &[Name]) -> bool
 pub fn is_usable(words: &[Name]) -> bool
     ensures { IsTrue result ↔ IsUsable words.now }
 {
-    words.len() <= MOST_WORDS && words.iter().all(|word| is_text(word.as_slice())) && begins_with_command(words)
+    words.len() <= MOST_WORDS && are_texts(words) && begins_with_command(words)
+}
+
+/// Whether a word is this text.
+fn is_word(word: &Name, text: &[u8]) -> bool
+    ensures { IsTrue result ↔ (word.now ≡ text.now) }
+{
+    word.as_slice() == text
 }
 
 /// Whether a word may be the name of a file: it doesn't begin with a dash.
@@ -68,4 +82,20 @@ fn steps_of(word: &[u8]) -> Option<u64>
     ensures only { (n : ℕ) → 0 < n → n ≤ most_steps → word.now ≡ decimal n → result ≡ Some n }
 {
     decimal_number(word, MOST_STEPS).filter(|n| *n > 0)
+}
+
+/// What the words ask for, in the two forms that are built: `go FILE`, and `go --steps N FILE` with a number from 1 to
+/// 10^12 without a leading zero. None for all other words.
+pub fn request_of(words: &[Name]) -> Option<Request<'_>>
+    ensures found { IfSome result (λ request. Asks words.now request.file.now request.steps) }
+    ensures none { IfNone result ((file : List ℕ) (steps : ℕ) → Asks words.now file steps → ⊥) }
+{
+    let (file, steps) = match words {
+        [command, file] if is_word(command, b"go") => (file, DEFAULT_STEPS),
+        [command, option, number, file] if is_word(command, b"go") && is_word(option, b"--steps") => {
+            (file, steps_of(number.as_slice())?)
+        }
+        _ => return None,
+    };
+    is_file_word(file.as_slice()).then_some(Request { file, steps })
 }
