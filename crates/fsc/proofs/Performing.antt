@@ -78,9 +78,12 @@ is_run None said ending words counts before after (ran file steps usable asks ru
     (reported_refusal said ending report (refusal_of_file said file counts runs.0), runs.1)
 is_run (Some image) said ending words counts before after (ran file steps usable asks runs) report =
     let program = runs.0 in
-    let job : Job = record { file = file; steps = steps; text = runs.1.0; program = program } in
-    (job, record { usable = usable; request = asks; text = runs.1.1; plain = runs.1.2 }, runs.2,
-      reported_answer (image_run steps (start_of image)) steps said ending before after report runs.3)
+    let job : Job = record { file = file; steps = steps; text = runs.1.0; program = program } in (
+      job,
+      record { usable = usable; request = asks; text = runs.1.1; plain = runs.1.2 },
+      runs.2,
+      reported_answer (image_run steps (start_of image)) steps said ending before after report runs.3,
+    )
 
 -- ---- causes
 
@@ -187,6 +190,4 @@ pub ends : (made : Option Image) (said ending : Ending) (words : List (List ℕ)
     → (said ≡ WriteFault → ⊥) → (said ≡ NoteFault → ⊥) → (ending ≡ NoteFault → ⊥) → IsEnd ending
 ends made said ending words counts before after job performed report is_told asked no_fault no_absence no_write unnoted no_note =
     reported_end said ending report no_note
-      (job_ends made said words counts before after job performed is_told asked no_fault no_absence no_write unnoted)
-
-
+    (job_ends made said words counts before after job performed is_told asked no_fault no_absence no_write unnoted)

@@ -79,7 +79,7 @@ exited (Some image) ending words told before after run job status is_told asked 
 pub steps_used : (made : Option Image) (ending : Ending) (words : List (List ℕ)) (told : Option FileMap) (before after : Option (List ℕ))
     → IsRunOf made ending words told before after → (job : Job) (n : ℕ) → IsSome told → IsAsked words told job → ending ≡ StepsUsed n
     → (n ≡ job.steps) × (n < 64 * (length job.program.bytes + 2)) ×
-      ((j : ℕ) → j ≤ length job.program.bytes → 64 * (j + 1) ≤ n → AppendsAtLeast j before after job.program.bytes)
+    ((j : ℕ) → j ≤ length job.program.bytes → 64 * (j + 1) ≤ n → AppendsAtLeast j before after job.program.bytes)
 steps_used None ending words told before after run job n is_told asked is = absurd (subst IsRefusal is run.0)
 steps_used (Some image) ending words told before after run job n is_told asked is =
     let other : Job = run.0 in
@@ -89,7 +89,8 @@ steps_used (Some image) ending words told before after run job n is_told asked i
     let writes = run.2 other.steps in
     let late : n < 64 * (length other.program.bytes + 2) = rw answer.1 (not_in_time said (length other.program.bytes) other.steps writes.in_time answer.0) in
     let keeps : (j : ℕ) → j ≤ length other.program.bytes → 64 * (j + 1) ≤ n → AppendsAtLeast j before after other.program.bytes = λ j within time.
-    at_least j before after said.written other.program.bytes writes.front (writes.keeps_up j within (rw answer.1 at time)) answer.2 in
-    (answer.1 ∙ same.1,
+    at_least j before after said.written other.program.bytes writes.front (writes.keeps_up j within (rw answer.1 at time)) answer.2 in (
+      answer.1 ∙ same.1,
       subst (λ (p : Program). n < 64 * (length p.bytes + 2)) same.0 late,
-      subst (λ (p : Program). (j : ℕ) → j ≤ length p.bytes → 64 * (j + 1) ≤ n → AppendsAtLeast j before after p.bytes) same.0 keeps)
+      subst (λ (p : Program). (j : ℕ) → j ≤ length p.bytes → 64 * (j + 1) ≤ n → AppendsAtLeast j before after p.bytes) same.0 keeps,
+    )

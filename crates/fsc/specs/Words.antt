@@ -39,4 +39,4 @@ abbrev pub Asks : List (List ℕ) → (file : List ℕ) (steps : ℕ) → Type 0
 Asks words file steps =
     IsFileWord file ×
     (((words ≡ codes "go" ∷ file ∷ []) × (steps ≡ default_steps)) ⊎
-     ((words ≡ codes "go" ∷ codes "--steps" ∷ decimal steps ∷ file ∷ []) × (0 < steps) × (steps ≤ most_steps)))
+    ((words ≡ codes "go" ∷ codes "--steps" ∷ decimal steps ∷ file ∷ []) × (0 < steps) × (steps ≤ most_steps)))

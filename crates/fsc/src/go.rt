@@ -49,12 +49,12 @@ fn faulty(alloc: Global, name: &Name) -> Ending
 fn read<F: Files>(alloc: Global, files: &mut F, file: &Name) -> Result<Program, Ending>
     ensures found { IfOk result (λ program. GivesProgram program file.now (F.contents files.old)) }
     ensures refused { IfErr result (λ ending. RefusesFile ending file.now (record {
-        told = F.contents files.old;
-        blamed = F.blamed files.new;
-        faults_before = F.fault_count files.old;
-        faults_after = F.fault_count files.new;
-        absences_before = F.absence_count files.old;
-        absences_after = F.absence_count files.new
+      told = F.contents files.old;
+      blamed = F.blamed files.new;
+      faults_before = F.fault_count files.old;
+      faults_after = F.fault_count files.new;
+      absences_before = F.absence_count files.old;
+      absences_after = F.absence_count files.new;
     })) }
     ensures kept { F.contents files.new ≡ F.contents files.old }
     ensures faults_counted { F.fault_count files.old ≤ F.fault_count files.new }
@@ -113,12 +113,12 @@ pub fn go<F: Files, S: Source, O: Sink>(
 ) -> Ending
     requires { made.old ≡ None }
     ensures ran { RunsFile made.new result file.now steps (record {
-        told = F.contents files.old;
-        blamed = F.blamed files.new;
-        faults_before = F.fault_count files.old;
-        faults_after = F.fault_count files.new;
-        absences_before = F.absence_count files.old;
-        absences_after = F.absence_count files.new
+      told = F.contents files.old;
+      blamed = F.blamed files.new;
+      faults_before = F.fault_count files.old;
+      faults_after = F.fault_count files.new;
+      absences_before = F.absence_count files.old;
+      absences_after = F.absence_count files.new;
     }) (O.written out.old) (O.written out.new) }
     ensures failed { result ≡ Ending.WriteFault → Rose (O.fault_count out.old) (O.fault_count out.new) }
     ensures unnoted { result ≢ Ending.NoteFault }

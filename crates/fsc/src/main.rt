@@ -1,10 +1,37 @@
-//! The compiler as a program.
+//! `fsc`: a memory-safe C90 compiler whose images run as C over blocks of bytes says. So far it reads one form of
+//! program, makes its image in memory and runs it.
 #![tactic(auto)]
 
+mod arguments;
 mod ending;
 mod go;
 mod note;
 mod tool;
 mod words;
 
-fn main() {}
+use ending::{Ending, status};
+use fsc_outside::{DiskFiles, InputSource, OutputSink};
+use note::report;
+use std::process::ExitCode;
+use tool::tool;
+
+/// Hands the words, the files and the streams of the process to the tool, and ends with its status.
+fn main(rt: HostRuntime) -> ExitCode {
+    let alloc = rt.alloc();
+    let mut files = DiskFiles::new(&rt, alloc);
+    let mut input = InputSource::new(rt.stdin());
+    let mut out = OutputSink::new(rt.stdout());
+    let mut notes = OutputSink::new(rt.stderr());
+    let mut made = None;
+    let ending = match arguments::words(alloc, &rt) {
+        Ok(words) => tool(
+            alloc, &words, &mut files, &mut input, &mut out, &mut notes, &mut made,
+        ),
+        Err(_) => report(alloc, &mut notes, Ending::NoMemory),
+    };
+    drop(made);
+    ExitCode::from(status(&ending))
+}
+
+#[cfg(test)]
+mod tests;

@@ -29,12 +29,12 @@ fn perform<F: Files, S: Source, O: Sink>(
 ) -> Ending
     requires { made.old ≡ None }
     ensures performed { Performed made.new result words.now (record {
-        told = F.contents files.old;
-        blamed = F.blamed files.new;
-        faults_before = F.fault_count files.old;
-        faults_after = F.fault_count files.new;
-        absences_before = F.absence_count files.old;
-        absences_after = F.absence_count files.new
+      told = F.contents files.old;
+      blamed = F.blamed files.new;
+      faults_before = F.fault_count files.old;
+      faults_after = F.fault_count files.new;
+      absences_before = F.absence_count files.old;
+      absences_after = F.absence_count files.new;
     }) (O.written out.old) (O.written out.new) }
     ensures failed { result ≡ Ending.WriteFault → Rose (O.fault_count out.old) (O.fault_count out.new) }
     ensures unnoted { result ≢ Ending.NoteFault }

@@ -27,7 +27,10 @@ pub struct Request<'a> {
 fn is_command(word: &[u8]) -> bool
     ensures { IsTrue result ↔ IsCommand word.now }
 {
-    matches!(word, b"build" | b"compile" | b"link" | b"run" | b"go" | b"demo")
+    matches!(
+        word,
+        b"build" | b"compile" | b"link" | b"run" | b"go" | b"demo"
+    )
 }
 
 /// Whether a word is UTF-8.
@@ -92,9 +95,8 @@ pub fn request_of(words: &[Name]) -> Option<Request<'_>>
 {
     let (file, steps) = match words {
         [command, file] if is_word(command, b"go") => (file, DEFAULT_STEPS),
-        [command, option, number, file] if is_word(command, b"go") && is_word(option, b"--steps") => {
-            (file, steps_of(number.as_slice())?)
-        }
+        [command, option, number, file] if is_word(command, b"go") && is_word(option, b"--steps") =>
+            { (file, steps_of(number.as_slice())?) }
         _ => return None,
     };
     is_file_word(file.as_slice()).then_some(Request { file, steps })

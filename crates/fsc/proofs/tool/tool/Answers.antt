@@ -32,5 +32,5 @@ returns-clause-command g c = λ usable unasked.
 pub returns-clause-ends : goal.returns-clause-ends
 returns-clause-ends g c = λ job is_told asked no_fault no_absence no_write no_note.
     ends _ _ _ _ _ _ _ job c.perform-ending.ensures.performed c.report.ensures.reported is_told asked no_fault no_absence
-      (λ is. no_write (c.perform-ending.ensures.failed is)) c.perform-ending.ensures.unnoted
-      (λ is. elim (c.report.ensures.failed is) [ inl unnoted ↦ c.perform-ending.ensures.unnoted unnoted | inr rose ↦ no_note rose ])
+    (λ is. no_write (c.perform-ending.ensures.failed is)) c.perform-ending.ensures.unnoted
+    (λ is. elim (c.report.ensures.failed is) [ inl unnoted ↦ c.perform-ending.ensures.unnoted unnoted | inr rose ↦ no_note rose ])
