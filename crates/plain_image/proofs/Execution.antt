@@ -30,7 +30,7 @@ state code k registers cell count = record {
   pc = 0x10000 + 4 * k;
   memory = code_region code ∷ buffer_region cell ∷ [];
   marks = 0;
-  count = count
+  count = count;
 }
 
 -- the code ends before the buffer
@@ -117,7 +117,7 @@ pub stores : (code rest : List Inst) (k : ℕ) (registers : List ℕ) (byte cell
 stores code rest k registers byte cell count small stands at holds fits =
     let within_code = within code rest k (Sb 11 5 (pos 0)) stands in
     acts code rest k (Sb 11 5 (pos 0)) registers cell count small stands (search rules) (lit< tt, lit< tt)
-      ∙ stores_row code k registers byte cell count (omega arith) at holds fits
+    ∙ stores_row code k registers byte cell count (omega arith) at holds fits
 
 -- the registers of a call that writes the buffer
 pub record CallsWrite (registers : List ℕ) : Type 0 where

@@ -40,6 +40,6 @@ image_of bytes status =
     record {
       entry = 0x10000;
       segments = record { address = 0x10000; size = length code; flags = 1; bytes = code }
-        ∷ record { address = 0x20000; size = 1; flags = 6; bytes = [] }
-        ∷ []
+          ∷ record { address = 0x20000; size = 1; flags = 6; bytes = [] }
+          ∷ [];
     }

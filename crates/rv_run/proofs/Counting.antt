@@ -46,8 +46,8 @@ write_call_counts s = choice_counts s.count (eqb (value_of s 10) 1) (written s (
 ecall_counts : (s : State) → Counts s.count (ecall s)
 ecall_counts s =
     choice_counts s.count (eqb (value_of s 17) 64) (write_call s) (cond (eqb (value_of s 17) 93) (exit_call s) (Traps trap.Call))
-      (write_call_counts s)
-      (choice_counts s.count (eqb (value_of s 17) 93) (exit_call s) (Traps trap.Call) tt tt)
+    (write_call_counts s)
+    (choice_counts s.count (eqb (value_of s 17) 93) (exit_call s) (Traps trap.Call) tt tt)
 
 row_counts : (inst : Inst) (s : State) → Counts s.count (row inst s)
 unfolding row

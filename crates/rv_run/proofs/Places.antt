@@ -30,7 +30,7 @@ unfolding with_byte
 none_changes [] at byte h = refl
 none_changes (region ∷ regions) at byte h =
     elim (writable at region) as (λ b. suc (length regions) ≤ cond (not b) (1 + position_or_len (writable at) regions) 0
-        → cond b (Some (changed region at byte ∷ regions)) (option_map (λ (others : List Region). region ∷ others) (with_byte regions at byte)) ≡ None) [
+    → cond b (Some (changed region at byte ∷ regions)) (option_map (λ (others : List Region). region ∷ others) (with_byte regions at byte)) ≡ None) [
       | true ↦ λ le. absurd (omega arith)
       | false ↦ λ le. rw (none_changes regions at byte (omega arith)) refl
     ] h

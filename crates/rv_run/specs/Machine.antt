@@ -28,7 +28,7 @@ start_of image = record {
   pc = image.entry;
   memory = map region_of image.segments;
   marks = 0;
-  count = 0
+  count = 0;
 }
 
 -- what a register holds

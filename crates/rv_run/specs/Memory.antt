@@ -38,5 +38,5 @@ abbrev pub region_of : Segment → Region
 region_of segment = record {
   address = segment.address;
   flags = segment.flags;
-  bytes = segment.bytes ++ replicate (segment.size - length segment.bytes) 0
+  bytes = segment.bytes ++ replicate (segment.size - length segment.bytes) 0;
 }
