@@ -1,5 +1,7 @@
 //! What images hold, and what runs of them do.
 
+ghost use Rattle.std.specs.Prelude.{◌≤◌, length};
+
 use super::*;
 use fsc_outside::{MemSink, MemSource};
 use rv_run::{Machine, Stop};
