@@ -1,5 +1,5 @@
 -- The whole program, from its first instruction to its exit.
-use Rattle.std.proofs.Common.{◌≡◌, ℕ, zero, suc, ◌+◌, ◌*◌, ◌-◌, ◌<◌, ◌≤◌, ◌^◌, List, [], ◌∷◌, ◌++◌, length, take, drop, get_or, replicate, refl, sym, ap, subst, ◌∙◌, arith, lit<, lit≤, inl}
+use Rattle.std.proofs.Common.{◌≡◌, ℕ, suc, ◌+◌, ◌*◌, ◌-◌, ◌<◌, ◌≤◌, List, [], ◌∷◌, ◌++◌, length, drop, get_or, replicate, refl, arith, lit<, lit≤, inl}
 use Rattle.std.specs.Prelude.{pos, slice_set}
 use Rattle.std.specs.List.{flat_map}
 use Rattle.std.proofs.lemmas.List.{append-nil, length-append}
@@ -13,7 +13,7 @@ use Rattle.rv_run.specs.ImageRun.{image_run}
 use Rattle.plain_image.specs.Code.{load, prologue, write_byte, epilogue, code_of, spelled, image_of}
 use Rattle.plain_image.specs.Writing.{Writes}
 use Rattle.plain_image.proofs.Claims.{Claims, ClaimsFrom, quietly, writing, exiting}
-use Rattle.plain_image.proofs.Execution.{state, IsSmall, Stands, loads, points, stores, writes, exits}
+use Rattle.plain_image.proofs.Execution.{state, IsSmall, loads, points, stores, writes, exits}
 use Rattle.plain_image.proofs.Placement.{drop_one, length-spelled}
 
 -- what the registers hold from the prologue on

@@ -1,5 +1,5 @@
 -- Memory as segments of bytes with rights.
-use Rattle.std.specs.Prelude.{ℕ, ◌+◌, ◌-◌, ◌/◌, ◌%◌, ◌==◌, nat_le, ◌&&◌, if◌then◌else◌, List, [], ◌∷◌, ◌++◌, length, take, drop, map, replicate, slice_set, Bool, Option, Some, None, option_map}
+use Rattle.std.specs.Prelude.{ℕ, ◌+◌, ◌-◌, ◌/◌, ◌%◌, ◌==◌, nat_le, ◌&&◌, if◌then◌else◌, List, [], ◌∷◌, ◌++◌, length, take, drop, replicate, slice_set, Bool, Option, Some, None, option_map}
 use Rattle.fsc_base.specs.declared.image.Segment.{Segment}
 use Rattle.rv_run.specs.declared.memory.Region.{Region}
 use Rattle.rv_run.specs.declared.memory.Right.{Right}
