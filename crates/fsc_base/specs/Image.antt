@@ -1,5 +1,5 @@
 -- Sound images: what the machine can be started on.
-use Rattle.std.specs.Prelude.{◌≡◌, ℕ, ◌+◌, ◌^◌, ◌<◌, ◌≤◌, ◌⊎◌, List, [], ◌∷◌, length, sum_by, All}
+use Rattle.std.specs.Prelude.{ℕ, ◌+◌, ◌^◌, ◌<◌, ◌≤◌, ◌⊎◌, List, [], ◌∷◌, length, sum_by, All}
 use Rattle.fsc_base.specs.declared.image.Segment.{Segment}
 use Rattle.fsc_base.specs.declared.image.Image.{Image}
 

@@ -1,9 +1,9 @@
 -- What runs from a state write, instruction by instruction.
-use Rattle.std.proofs.Common.{◌≡◌, ◌≢◌, ℕ, zero, suc, ◌+◌, ◌*◌, ◌<◌, ◌≤◌, ◌⊎◌, inl, inr, List, [], ◌∷◌, ◌++◌, length, take, refl, sym, ap, subst, ◌∙◌, arith}
+use Rattle.std.proofs.Common.{◌≡◌, ◌≢◌, ℕ, zero, suc, ◌+◌, ◌*◌, ◌≤◌, ◌⊎◌, inl, inr, List, [], ◌∷◌, length, take, refl, ap, arith}
 use Rattle.rv_run.specs.declared.stop.Stop.{Stop}
 use Rattle.rv_run.specs.declared.stop.Stop.TheVariants.{Exit, Steps}
-use Rattle.rv_run.specs.Machine.{State, Action, Goes, Exits, goes, action_of}
-use Rattle.rv_run.specs.ImageRun.{ImageRun, image_run, beginning, writing_first}
+use Rattle.rv_run.specs.Machine.{State, Goes, Exits, goes, action_of}
+use Rattle.rv_run.specs.ImageRun.{ImageRun, image_run}
 
 -- The run of n instructions writes these bytes and exits with this status; `lead` instructions stand before the first
 -- byte.

@@ -1,19 +1,19 @@
 -- What each instruction of the code does, where the code and the buffer are all of memory.
-use Rattle.std.proofs.Common.{◌≡◌, ℕ, zero, suc, ◌+◌, ◌*◌, ◌-◌, ◌/◌, ◌%◌, ◌<◌, ◌≤◌, ◌^◌, Bool, true, false, cond, eqb, ltb, leb, List, [], ◌∷◌, ◌++◌, length, take, drop, get_or, set, Option, Some, None, refl, sym, ap, subst, ◌∙◌, arith, lit<, rules}
+use Rattle.std.proofs.Common.{◌≡◌, ℕ, ◌+◌, ◌*◌, ◌-◌, ◌%◌, ◌<◌, ◌≤◌, ◌^◌, true, false, eqb, leb, List, [], ◌∷◌, length, drop, Some, refl, ap, ◌∙◌, arith, lit<, rules}
 use Rattle.std.proofs.lemmas.Int.{ints}
-use Rattle.std.specs.Prelude.{ℤ, pos, slice_index, slice_set}
-use Rattle.std.specs.Int.{w32, cast_unsigned, to_le_bytes, from_le_bytes}
+use Rattle.std.specs.Prelude.{pos, slice_index, slice_set}
+use Rattle.std.specs.Int.{w32, cast_unsigned, from_le_bytes}
 use Rattle.std.proofs.lemmas.Bool.{le-leb, eq-eqb, ne_eqb}
 use Rattle.std.proofs.lemmas.Nat.{from_le_bytes-to_le_bytes_4}
 use Rattle.rv_isa.specs.declared.inst.Inst.{Inst}
-use Rattle.rv_isa.specs.declared.inst.Inst.TheVariants.{Lui, Addi, Sb, Ecall}
+use Rattle.rv_isa.specs.declared.inst.Inst.TheVariants.{Lui, Sb, Ecall}
 use Rattle.rv_isa.specs.Encoding.{IsValid, NamesRegisters, encoding}
 use Rattle.rv_isa.specs.Decoding.{decoded}
 use Rattle.rv_isa.proofs.Tables.{decoded-encoding, encoding-below}
 use Rattle.rv_run.specs.declared.memory.Region.{Region}
-use Rattle.rv_run.specs.declared.memory.Right.TheVariants.{Execute, Write, Read}
+use Rattle.rv_run.specs.declared.memory.Right.TheVariants.{Execute, Read}
 use Rattle.rv_run.specs.Memory.{covers, bytes_at, with_byte}
-use Rattle.rv_run.specs.Machine.{State, Action, Goes, Exits, Traps, goes, row, action_of, fetched}
+use Rattle.rv_run.specs.Machine.{State, Goes, Exits, goes, row, action_of}
 use Rattle.plain_image.specs.Code.{load, word_of, spelled}
 use Rattle.plain_image.proofs.Placement.{length-spelled, word_at, within}
 
@@ -30,7 +30,7 @@ state code k registers cell count = record {
   pc = 0x10000 + 4 * k;
   memory = code_region code ∷ buffer_region cell ∷ [];
   marks = 0;
-  count = count
+  count = count;
 }
 
 -- the code ends before the buffer
@@ -117,7 +117,7 @@ pub stores : (code rest : List Inst) (k : ℕ) (registers : List ℕ) (byte cell
 stores code rest k registers byte cell count small stands at holds fits =
     let within_code = within code rest k (Sb 11 5 (pos 0)) stands in
     acts code rest k (Sb 11 5 (pos 0)) registers cell count small stands (search rules) (lit< tt, lit< tt)
-      ∙ stores_row code k registers byte cell count (omega arith) at holds fits
+    ∙ stores_row code k registers byte cell count (omega arith) at holds fits
 
 -- the registers of a call that writes the buffer
 pub record CallsWrite (registers : List ℕ) : Type 0 where

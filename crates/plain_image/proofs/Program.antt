@@ -1,5 +1,5 @@
 -- The whole program, from its first instruction to its exit.
-use Rattle.std.proofs.Common.{◌≡◌, ℕ, zero, suc, ◌+◌, ◌*◌, ◌-◌, ◌<◌, ◌≤◌, ◌^◌, List, [], ◌∷◌, ◌++◌, length, take, drop, get_or, replicate, refl, sym, ap, subst, ◌∙◌, arith, lit<, lit≤, inl}
+use Rattle.std.proofs.Common.{◌≡◌, ℕ, suc, ◌+◌, ◌*◌, ◌-◌, ◌<◌, ◌≤◌, List, [], ◌∷◌, ◌++◌, length, drop, get_or, replicate, refl, arith, lit<, lit≤, inl}
 use Rattle.std.specs.Prelude.{pos, slice_set}
 use Rattle.std.specs.List.{flat_map}
 use Rattle.std.proofs.lemmas.List.{append-nil, length-append}
@@ -13,7 +13,7 @@ use Rattle.rv_run.specs.ImageRun.{image_run}
 use Rattle.plain_image.specs.Code.{load, prologue, write_byte, epilogue, code_of, spelled, image_of}
 use Rattle.plain_image.specs.Writing.{Writes}
 use Rattle.plain_image.proofs.Claims.{Claims, ClaimsFrom, quietly, writing, exiting}
-use Rattle.plain_image.proofs.Execution.{state, IsSmall, Stands, loads, points, stores, writes, exits}
+use Rattle.plain_image.proofs.Execution.{state, IsSmall, loads, points, stores, writes, exits}
 use Rattle.plain_image.proofs.Placement.{drop_one, length-spelled}
 
 -- what the registers hold from the prologue on
@@ -31,8 +31,8 @@ epilogue_claims code status k x5 cell count small fits stands =
     let second = drop_one code (load 17 93 ∷ Ecall ∷ []) k (load 10 status) stands in
     let third = drop_one code (Ecall ∷ []) (k + 1) (load 17 93) second in
     quietly [] status 1 _ _ (loads code _ k 10 status (registers x5 1 64) cell count small stands (lit< tt) (lit< tt) (omega arith) refl)
-      (quietly [] status 0 _ _ (loads code _ (k + 1) 17 93 (registers x5 status 64) cell (count + 1) small second (lit< tt) (lit< tt) (lit< tt) refl)
-        (exiting status _ (exits code _ (k + 1 + 1) (registers x5 status 93) status cell (count + 1 + 1) small third refl refl fits)))
+    (quietly [] status 0 _ _ (loads code _ (k + 1) 17 93 (registers x5 status 64) cell (count + 1) small second (lit< tt) (lit< tt) (lit< tt) refl)
+    (exiting status _ (exits code _ (k + 1 + 1) (registers x5 status 93) status cell (count + 1 + 1) small third refl refl fits)))
 
 bytes_claim : (code : List Inst) (bytes : List ℕ) (status k x5 cell count : ℕ) → IsSmall code → AreBytes bytes → status < 256
     → drop k code ≡ flat_map write_byte bytes ++ epilogue status
@@ -45,9 +45,9 @@ bytes_claim code (byte ∷ bytes) status k x5 cell count small are_bytes fits st
     let third = drop_one code (Ecall ∷ rest) (k + 1) (Sb 11 5 (pos 0)) second in
     let fourth = drop_one code rest (k + 1 + 1) Ecall third in
     quietly (byte ∷ bytes) status 1 _ _ (loads code _ k 5 byte (registers x5 1 64) cell count small stands (lit< tt) (lit< tt) (omega arith) refl)
-      (quietly (byte ∷ bytes) status 0 _ _ (stores code _ (k + 1) (registers byte 1 64) byte cell (count + 1) small second refl refl is_byte)
-        (writing byte bytes status 0 _ _ (writes code _ (k + 1 + 1) (registers byte 1 64) byte (count + 1 + 1) small third (record { stream = refl; buffer = refl; size = refl; call = refl }))
-          (bytes_claim code bytes status (k + 1 + 1 + 1) byte byte (count + 1 + 1 + 1) small (λ i. are_bytes (suc i)) fits fourth)))
+    (quietly (byte ∷ bytes) status 0 _ _ (stores code _ (k + 1) (registers byte 1 64) byte cell (count + 1) small second refl refl is_byte)
+    (writing byte bytes status 0 _ _ (writes code _ (k + 1 + 1) (registers byte 1 64) byte (count + 1 + 1) small third (record { stream = refl; buffer = refl; size = refl; call = refl }))
+    (bytes_claim code bytes status (k + 1 + 1 + 1) byte byte (count + 1 + 1 + 1) small (λ i. are_bytes (suc i)) fits fourth)))
 
 abbrev zeros : List ℕ
 zeros = replicate 32 0
@@ -62,10 +62,10 @@ program_claims code bytes status small are_bytes fits is =
     let fourth = drop_one code (load 17 64 ∷ rest) 2 (load 12 1) third in
     let fifth = drop_one code rest 3 (load 17 64) fourth in
     quietly bytes status 5 _ _ (loads code _ 0 10 1 zeros 0 0 small is (lit< tt) (lit< tt) (lit< tt) refl)
-      (quietly bytes status 4 _ _ (points code _ 1 (slice_set zeros 10 1) 0 1 small second)
-        (quietly bytes status 3 _ _ (loads code _ 2 12 1 (slice_set (slice_set zeros 10 1) 11 0x20000) 0 2 small third (lit< tt) (lit< tt) (lit< tt) refl)
-          (quietly bytes status 2 _ _ (loads code _ 3 17 64 (slice_set (slice_set (slice_set zeros 10 1) 11 0x20000) 12 1) 0 3 small fourth (lit< tt) (lit< tt) (lit< tt) refl)
-            (bytes_claim code bytes status 4 0 0 4 small are_bytes fits fifth))))
+    (quietly bytes status 4 _ _ (points code _ 1 (slice_set zeros 10 1) 0 1 small second)
+    (quietly bytes status 3 _ _ (loads code _ 2 12 1 (slice_set (slice_set zeros 10 1) 11 0x20000) 0 2 small third (lit< tt) (lit< tt) (lit< tt) refl)
+    (quietly bytes status 2 _ _ (loads code _ 3 17 64 (slice_set (slice_set (slice_set zeros 10 1) 11 0x20000) 12 1) 0 3 small fourth (lit< tt) (lit< tt) (lit< tt) refl)
+    (bytes_claim code bytes status 4 0 0 4 small are_bytes fits fifth))))
 
 length-write_bytes : (bytes : List ℕ) → length (flat_map write_byte bytes) ≡ 3 * length bytes
 length-write_bytes [] = refl

@@ -1,5 +1,5 @@
 -- The code of a program that writes some bytes and exits.
-use Rattle.std.specs.Prelude.{ℕ, ◌+◌, List, [], ◌∷◌, ◌++◌, length, ℤ, pos}
+use Rattle.std.specs.Prelude.{ℕ, List, [], ◌∷◌, ◌++◌, length, pos}
 use Rattle.std.specs.List.{flat_map}
 use Rattle.std.specs.Int.{w32, to_le_bytes}
 use Rattle.fsc_base.specs.declared.image.Image.{Image}
@@ -40,6 +40,6 @@ image_of bytes status =
     record {
       entry = 0x10000;
       segments = record { address = 0x10000; size = length code; flags = 1; bytes = code }
-        ∷ record { address = 0x20000; size = 1; flags = 6; bytes = [] }
-        ∷ []
+          ∷ record { address = 0x20000; size = 1; flags = 6; bytes = [] }
+          ∷ [];
     }

@@ -1,15 +1,13 @@
 -- Each instruction counts once.
-use Rattle.std.proofs.Common.{◌≡◌, ℕ, zero, suc, ◌+◌, ◌*◌, ◌%◌, ◌^◌, Bool, true, false, cond, eqb, List, set, Option, Some, None, refl, ap, subst, ◌∙◌}
-use Rattle.std.specs.Prelude.{ℤ}
+use Rattle.std.proofs.Common.{◌≡◌, ℕ, ◌+◌, ◌*◌, ◌%◌, ◌^◌, Bool, true, false, cond, eqb, List, set, Option, Some, None, refl, ap, subst, ◌∙◌}
 use Rattle.std.specs.Int.{w32, cast_unsigned, from_le_bytes}
 use Rattle.rv_isa.specs.declared.inst.Inst.{Inst}
 use Rattle.rv_isa.specs.declared.inst.Inst.TheVariants.{Lui, Addi, Sb, Ecall}
 use Rattle.rv_isa.specs.Decoding.{decoded}
 use Rattle.rv_run.specs.declared.memory.Region.{Region}
 use Rattle.rv_run.specs.declared.memory.Right.TheVariants.{Execute}
-use Rattle.rv_run.specs.declared.stop.TrapKind.{TrapKind}
 use Rattle.rv_run.specs.declared.stop.TrapKind.TheVariants as trap
-use Rattle.rv_run.specs.Machine.{State, Action, Goes, Exits, Traps, action_of, row, spelled, fetched, next, with_register, with_mark, is_mark, sum_of, written, buffer_of, stored, value_of, write_call, exit_call, ecall}
+use Rattle.rv_run.specs.Machine.{State, Action, Goes, Exits, Traps, action_of, row, spelled, fetched, with_register, with_mark, is_mark, sum_of, written, buffer_of, stored, value_of, write_call, exit_call, ecall}
 use Rattle.rv_run.specs.Memory.{bytes_at, with_byte}
 
 -- the action goes on with one instruction more, if it goes on
@@ -46,8 +44,8 @@ write_call_counts s = choice_counts s.count (eqb (value_of s 10) 1) (written s (
 ecall_counts : (s : State) → Counts s.count (ecall s)
 ecall_counts s =
     choice_counts s.count (eqb (value_of s 17) 64) (write_call s) (cond (eqb (value_of s 17) 93) (exit_call s) (Traps trap.Call))
-      (write_call_counts s)
-      (choice_counts s.count (eqb (value_of s 17) 93) (exit_call s) (Traps trap.Call) tt tt)
+    (write_call_counts s)
+    (choice_counts s.count (eqb (value_of s 17) 93) (exit_call s) (Traps trap.Call) tt tt)
 
 row_counts : (inst : Inst) (s : State) → Counts s.count (row inst s)
 unfolding row

@@ -2,7 +2,7 @@
 use Rattle.std.proofs.Common.{◌≡◌, ℕ, zero, suc, ◌+◌, ◌-◌, ◌<◌, ◌≤◌, Bool, true, false, cond, ltb, not, List, [], ◌∷◌, length, get_or, set, Option, Some, None, refl, arith, rules, inl, inr}
 use Rattle.std.specs.Prelude.{option_map, position}
 use Rattle.std.specs.List.{position_or_len}
-use Rattle.std.proofs.lemmas.Bool.{cases_lt, ltb-false, lt-ltb}
+use Rattle.std.proofs.lemmas.Bool.{cases_lt, lt-ltb}
 use Rattle.std.proofs.lemmas.List.Quantifiers.{position-Some}
 use Rattle.rv_run.specs.declared.memory.Region.{Region}
 use Rattle.rv_run.specs.declared.memory.Right.TheVariants.{Write}
@@ -30,7 +30,7 @@ unfolding with_byte
 none_changes [] at byte h = refl
 none_changes (region ∷ regions) at byte h =
     elim (writable at region) as (λ b. suc (length regions) ≤ cond (not b) (1 + position_or_len (writable at) regions) 0
-        → cond b (Some (changed region at byte ∷ regions)) (option_map (λ (others : List Region). region ∷ others) (with_byte regions at byte)) ≡ None) [
+    → cond b (Some (changed region at byte ∷ regions)) (option_map (λ (others : List Region). region ∷ others) (with_byte regions at byte)) ≡ None) [
       | true ↦ λ le. absurd (omega arith)
       | false ↦ λ le. rw (none_changes regions at byte (omega arith)) refl
     ] h

@@ -1,13 +1,13 @@
 -- A run that goes on by one instruction, ends with it, or is done.
-use Rattle.std.proofs.Common.{◌≡◌, ℕ, zero, suc, ◌+◌, ◌-◌, ◌<◌, ◌≤◌, ◌^◌, List, [], ◌∷◌, ◌++◌, Option, Some, None, refl, sym, ap, subst, ◌∙◌, append_assoc, arith}
+use Rattle.std.proofs.Common.{◌≡◌, ℕ, suc, ◌+◌, ◌-◌, ◌<◌, ◌≤◌, List, [], ◌++◌, Option, refl, sym, ap, ◌∙◌, append_assoc, arith}
 use Rattle.std.proofs.lemmas.List.{append-nil}
 use Rattle.fsc_outside.specs.Streams.{Appends, AppendsFront}
-use Rattle.fsc_outside.proofs.Appending.{appends_then, appends_front_then, appends_front_longer, appends_front_whole}
+use Rattle.fsc_outside.proofs.Appending.{appends_then, appends_front_then, appends_front_longer}
 use Rattle.rv_run.specs.declared.stop.Step.TheVariants as step
 use Rattle.rv_run.specs.declared.stop.Stop.{Stop}
 use Rattle.rv_run.specs.declared.stop.Stop.TheVariants as stop
 use Rattle.rv_run.specs.Machine.{State, Action, Goes, Exits, Traps, action_of, counted}
-use Rattle.rv_run.specs.ImageRun.{ImageRun, writing_first, ending, beginning, image_run, IsCutShort, EndsBy, Performs, RunsWhole, Runs}
+use Rattle.rv_run.specs.ImageRun.{ImageRun, writing_first, ending, beginning, image_run, IsCutShort, Performs, RunsWhole, Runs}
 
 writing_twice : (front part : List ℕ) (run : ImageRun) → writing_first front (writing_first part run) ≡ writing_first (front ++ part) run
 writing_twice front part run = ap (λ (bytes : List ℕ). record run { written = bytes }) (sym (append_assoc front part run.written))

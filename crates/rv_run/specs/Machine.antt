@@ -1,6 +1,6 @@
 -- The machine: its state, and what the instruction at its pc does to it, one row for each instruction.
 -- Read it beside the RISC-V manual: registers and addresses are numbers below 2 ^ 32.
-use Rattle.std.specs.Prelude.{◌≡◌, ℕ, ◌+◌, ◌*◌, ◌%◌, ◌^◌, ◌==◌, ◌&&◌, if◌then◌else◌, List, [], ◌∷◌, map, replicate, slice_index, slice_set, Bool, Option, Some, None, ℤ}
+use Rattle.std.specs.Prelude.{ℕ, ◌+◌, ◌*◌, ◌%◌, ◌^◌, ◌==◌, ◌&&◌, if◌then◌else◌, List, [], map, replicate, slice_index, slice_set, Bool, Option, Some, None, ℤ}
 use Rattle.std.specs.Int.{w32, cast_unsigned, from_le_bytes}
 use Rattle.fsc_base.specs.declared.image.Image.{Image}
 use Rattle.rv_isa.specs.declared.inst.Inst.{Inst}
@@ -28,7 +28,7 @@ start_of image = record {
   pc = image.entry;
   memory = map region_of image.segments;
   marks = 0;
-  count = 0
+  count = 0;
 }
 
 -- what a register holds

@@ -1,5 +1,5 @@
 -- Memory as segments of bytes with rights.
-use Rattle.std.specs.Prelude.{ℕ, ◌+◌, ◌-◌, ◌/◌, ◌%◌, ◌==◌, nat_le, ◌&&◌, if◌then◌else◌, List, [], ◌∷◌, ◌++◌, length, take, drop, map, replicate, slice_set, Bool, Option, Some, None, option_map}
+use Rattle.std.specs.Prelude.{ℕ, ◌+◌, ◌-◌, ◌/◌, ◌%◌, ◌==◌, nat_le, ◌&&◌, if◌then◌else◌, List, [], ◌∷◌, ◌++◌, length, take, drop, replicate, slice_set, Bool, Option, Some, None, option_map}
 use Rattle.fsc_base.specs.declared.image.Segment.{Segment}
 use Rattle.rv_run.specs.declared.memory.Region.{Region}
 use Rattle.rv_run.specs.declared.memory.Right.{Right}
@@ -38,5 +38,5 @@ abbrev pub region_of : Segment → Region
 region_of segment = record {
   address = segment.address;
   flags = segment.flags;
-  bytes = segment.bytes ++ replicate (segment.size - length segment.bytes) 0
+  bytes = segment.bytes ++ replicate (segment.size - length segment.bytes) 0;
 }

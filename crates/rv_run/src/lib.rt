@@ -10,3 +10,6 @@ mod stop;
 
 pub use machine::Machine;
 pub use stop::{Step, Stop, TrapKind};
+
+#[cfg(test)]
+mod tests;

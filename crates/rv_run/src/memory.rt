@@ -115,7 +115,9 @@ fn bytes_in(regions: &[Region], right: Right, at: u32, n: u32) -> Option<&[u8]>
 fn writable_in(regions: &[Region], at: u32) -> Option<usize>
     ensures { result ≡ position (λ region. covers region Right.Write at 1) regions.now }
 {
-    regions.iter().position(|region| region.covers(Right::Write, at, 1))
+    regions
+        .iter()
+        .position(|region| region.covers(Right::Write, at, 1))
 }
 
 /// Writes one byte, where a region lets it be written.

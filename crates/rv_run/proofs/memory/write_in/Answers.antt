@@ -1,4 +1,4 @@
-use Rattle.std.proofs.Common.{◌≡◌, refl, sym, arith}
+use Rattle.std.proofs.Common.{refl, sym, arith}
 use Rattle.rv_run.proofs.Places.{place_holds, with_byte-at, with_byte-past}
 use Rattle.rv_run.proofs.memory.write_in.Goals as goal
 

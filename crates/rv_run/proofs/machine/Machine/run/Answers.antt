@@ -19,7 +19,7 @@ loop-preserved g c =
       run = (
         so_far.0 ++ step.0,
         goes_on c.args.n c.loop.counter _ c.loop.self c.step.new.self step.0 so_far.0 c.loop-test.true step.1 so_far.1,
-        appends_then _ _ _ so_far.0 step.0 so_far.2 step.2
+        appends_then _ _ _ so_far.0 step.0 so_far.2 step.2,
       );
       counted = omega (arith, c.step.ensures.counted);
       untouched = c.step.ensures.untouched ∙ c.loop.invariant.untouched;
