@@ -1,5 +1,5 @@
--- Runs: the machine's steps, one after another, and what they write.
-use Rattle.std.specs.Prelude.{◌≡◌, ℕ, zero, suc, List, [], ◌++◌, Option, Result, Ok, Err}
+-- Runs: the machine's steps, one after another, what they take from the input and what they write.
+use Rattle.std.specs.Prelude.{◌≡◌, ℕ, zero, suc, ◌+◌, ◌≤◌, ◌⊎◌, List, [], ◌++◌, length, take, drop, Option, Some, None, Result, Ok, Err}
 use Rattle.fsc_outside.specs.Streams.{Appends, AppendsFront}
 use Rattle.rv_isa.specs.declared.inst.Inst.{Inst}
 use Rattle.rv_run.specs.declared.stop.TrapKind.{TrapKind}
@@ -7,69 +7,91 @@ use Rattle.rv_run.specs.declared.stop.Step.{Step}
 use Rattle.rv_run.specs.declared.stop.Step.TheVariants as step
 use Rattle.rv_run.specs.declared.stop.Stop.{Stop}
 use Rattle.rv_run.specs.declared.stop.Stop.TheVariants as stop
-use Rattle.rv_run.specs.Machine.{State, Action, Goes, Exits, Traps, row, action_of, counted}
+use Rattle.rv_run.specs.Machine.{State, Action, Goes, Takes, Exits, Stops, Traps, row, action_of, counted}
 
--- A run of at most so many instructions: the state after it, what was written, and how it ended, which is Steps where
--- all of them ran.
+-- ---- whole runs
+
+-- A run of at most so many instructions: the state after it, what was written, what is left of the input, how many
+-- bytes it asked the input for, and how it ended, which is Steps where all of them ran.
 pub record ImageRun : Type 0 where
   pub machine : State
   pub written : List ℕ
+  pub left : List ℕ
+  pub asked : ℕ
   pub stop : Stop
 
 -- the same with these bytes written before
 abbrev pub writing_first : List ℕ → ImageRun → ImageRun
 writing_first bytes run = record run { written = bytes ++ run.written }
 
+-- the same with so many bytes asked for before
+abbrev pub asking_first : ℕ → ImageRun → ImageRun
+asking_first n run = record run { asked = n + run.asked }
+
 -- a run that ends with the next instruction, which changes nothing and counts
-abbrev pub ending : State → Stop → ImageRun
-ending s stop = record { machine = counted s; written = []; stop = stop }
+abbrev pub ending : State → List ℕ → Stop → ImageRun
+ending s input stop = record { machine = counted s; written = []; left = input; asked = 0; stop = stop }
 
 -- the next instruction, and then the rest of the run
-abbrev pub beginning : State → Action → (State → ImageRun) → ImageRun
-beginning s (Goes bytes t) rest = writing_first bytes (rest t)
-beginning s (Exits status) rest = ending s (stop.Exit status)
-beginning s (Traps kind) rest = ending s (stop.Trap kind s.pc)
+abbrev pub beginning : State → Action → (input : List ℕ) → (State → List ℕ → ImageRun) → ImageRun
+beginning s (Goes bytes t) input rest = writing_first bytes (rest t input)
+beginning s (Takes n t) input rest = asking_first n (rest (t (take n input)) (drop n input))
+beginning s (Exits status) input rest = ending s input (stop.Exit status)
+beginning s (Stops kind block offset width) input rest = ending s input (stop.StopCall kind block offset width)
+beginning s (Traps kind) input rest = ending s input (stop.Trap kind s.pc)
 
-unfoldable pub image_run : ℕ → State → ImageRun
-image_run zero s = record { machine = s; written = []; stop = stop.Steps }
-image_run (suc n) s = beginning s (action_of s) (image_run n)
+unfoldable pub image_run : ℕ → State → (input : List ℕ) → ImageRun
+image_run zero s input = record { machine = s; written = []; left = input; asked = 0; stop = stop.Steps }
+image_run (suc n) s input = beginning s (action_of s) input (image_run n)
 
--- what an instruction that may trap, and else writes nothing, leaves of the state
-abbrev pub MeetsRow : Action → (old new : State) → Result (Unit {0}) TrapKind → Type 0
-MeetsRow action old new (Ok _) = action ≡ Goes [] new
-MeetsRow action old new (Err kind) = (action ≡ Traps kind) × (new ≡ old)
+-- ---- how the program carries them out over a source and a sink
 
--- which instruction the state asks for
-abbrev pub FindsRow : State → Result Inst TrapKind → Type 0
-FindsRow s (Ok inst) = action_of s ≡ row inst s
-FindsRow s (Err kind) = action_of s ≡ Traps kind
+-- what the source has left, and what the sink holds, where they tell
+pub record Streams : Type 0 where
+  pub left : Option (List ℕ)
+  pub written : Option (List ℕ)
 
--- How the program performs what an instruction does. `before` and `after` are what the output holds where it tells.
--- An end leaves the state as it was but for the count; where the output refuses a write, a front of it was written.
-abbrev pub IsCutShort : Action → (before after : Option (List ℕ)) → Type 0
-IsCutShort (Goes bytes t) before after = AppendsFront before after bytes
+-- the bytes were taken: all that there are up to n, where the source tells
+abbrev pub TakesUpTo : (n : ℕ) (old new : Option (List ℕ)) (bytes : List ℕ) → Type 0
+TakesUpTo n None new bytes = length bytes ≤ n
+TakesUpTo n (Some left) new bytes = (bytes ≡ take n left) × (new ≡ Some (drop n left))
+
+-- an instruction went on
+abbrev pub GoesOn : Action → (new : State) (before after : Streams) → Type 0
+GoesOn (Goes bytes t) new before after = (new ≡ t) × (after.left ≡ before.left) × Appends before.written after.written bytes
+GoesOn (Takes n t) new before after = (bytes : List ℕ) × (new ≡ t bytes) × TakesUpTo n before.left after.left bytes × (after.written ≡ before.written)
+GoesOn (Exits status) new before after = ⊥
+GoesOn (Stops kind block offset width) new before after = ⊥
+GoesOn (Traps kind) new before after = ⊥
+
+-- the sink refused what an instruction writes, after a front of it
+abbrev pub IsCutShort : Action → (before after : Streams) → Type 0
+IsCutShort (Goes bytes t) before after = AppendsFront before.written after.written bytes
+IsCutShort (Takes n t) before after = ⊥
 IsCutShort (Exits status) before after = ⊥
+IsCutShort (Stops kind block offset width) before after = ⊥
 IsCutShort (Traps kind) before after = ⊥
 
-abbrev pub EndsBy : Action → Stop → (pc : ℕ) (before after : Option (List ℕ)) → Type 0
-EndsBy action (stop.Exit status) pc before after = (action ≡ Exits status) × Appends before after []
-EndsBy action (stop.Trap kind at) pc before after = (action ≡ Traps kind) × (at ≡ pc) × Appends before after []
-EndsBy action stop.WriteFault pc before after = IsCutShort action before after
-EndsBy action stop.NoMemory pc before after = IsCutShort action before after
-EndsBy action stop.Steps pc before after = ⊥
+-- the source failed while an instruction took from it
+abbrev pub IsReadCut : Action → (before after : Streams) → Type 0
+IsReadCut (Takes n t) before after = after.written ≡ before.written
+IsReadCut (Goes bytes t) before after = ⊥
+IsReadCut (Exits status) before after = ⊥
+IsReadCut (Stops kind block offset width) before after = ⊥
+IsReadCut (Traps kind) before after = ⊥
 
-abbrev pub Performs : Action → Step → (old new : State) (before after : Option (List ℕ)) → Type 0
-Performs action step.Next old new before after = (bytes : List ℕ) × (action ≡ Goes bytes new) × Appends before after bytes
-Performs action (step.Ended stop) old new before after = (new ≡ counted old) × EndsBy action stop old.pc before after
+-- an instruction ended the run
+abbrev pub EndsBy : Action → Stop → (old : State) (before after : Streams) → Type 0
+EndsBy action (stop.Exit status) old before after = (action ≡ Exits status) × (after ≡ before)
+EndsBy action (stop.StopCall kind block offset width) old before after = (action ≡ Stops kind block offset width) × (after ≡ before)
+EndsBy action (stop.Trap kind pc) old before after = (action ≡ Traps kind) × (pc ≡ old.pc) × (after ≡ before)
+EndsBy action stop.WriteFault old before after = IsCutShort action before after
+EndsBy action stop.NoMemory old before after = IsCutShort action before after
+EndsBy action stop.ReadFault old before after = IsReadCut action before after
+EndsBy action stop.Steps old before after = ⊥
 
--- the program ran all of this, and stopped so
-abbrev pub RunsWhole : ImageRun → Stop → State → (before after : Option (List ℕ)) → Type 0
-RunsWhole run stop new before after = (stop ≡ run.stop) × (new ≡ run.machine) × Appends before after run.written
-
--- How the program performs a run: whole, or up to where the output refused a write.
-abbrev pub Runs : ImageRun → Stop → State → (before after : Option (List ℕ)) → Type 0
-Runs run (stop.Exit status) new before after = RunsWhole run (stop.Exit status) new before after
-Runs run (stop.Trap kind pc) new before after = RunsWhole run (stop.Trap kind pc) new before after
-Runs run stop.Steps new before after = RunsWhole run stop.Steps new before after
-Runs run stop.WriteFault new before after = AppendsFront before after run.written
-Runs run stop.NoMemory new before after = AppendsFront before after run.written
+-- One step. An end leaves the state as it was but for the count; after a fault of the source the buffer begins with the
+-- bytes that were taken.
+abbrev pub Performs : Action → Step → (old new : State) (before after : Streams) → Type 0
+Performs action step.Next old new before after = GoesOn action new before after
+Performs action (step.Ended stop) old new before after = EndsBy action stop old before after

@@ -1,3 +1,2 @@
 pub mod ImageRun
 pub mod Machine
-pub mod Memory
