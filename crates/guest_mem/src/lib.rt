@@ -1,0 +1,12 @@
+//! The memory of the guest machine: the segments of an image as regions of bytes with rights (RISC-V Instruction Set
+//! Manual, volume I: byte addresses of 32 bits, little-endian).
+#![tactic(auto)]
+
+mod fault;
+mod flat_region;
+mod guest;
+mod right;
+
+pub use fault::{Fault, StoreNo};
+pub use guest::Guest;
+pub use right::Right;
