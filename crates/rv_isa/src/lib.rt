@@ -1,16 +1,15 @@
-//! The instructions of RV32IM that are built, as values and as words of 32 bits (RISC-V Instruction Set Manual,
+//! The instructions of RV32IM, as values and as words of 32 bits (RISC-V Instruction Set Manual,
 //! volume I, chapters "RV32I Base Integer Instruction Set" and "Instruction Set Listings").
 #![tactic(auto)]
 
 mod decoding;
 mod encoding;
+mod fields;
 mod inst;
 mod opcode;
 mod reg;
-#[cfg(test)]
-mod tests;
 
-pub use decoding::{decode, round_trips};
+pub use decoding::decode;
 pub use encoding::encode;
 pub use inst::Inst;
 pub use reg::Reg;

@@ -7,7 +7,8 @@ use Rattle.rv_run.specs.declared.stop.Step.{Step}
 use Rattle.rv_run.specs.declared.stop.Step.TheVariants as step
 use Rattle.rv_run.specs.declared.stop.Stop.{Stop}
 use Rattle.rv_run.specs.declared.stop.Stop.TheVariants as stop
-use Rattle.rv_run.specs.Machine.{State, Action, Goes, Takes, Exits, Stops, Traps, row, action_of, counted}
+use Rattle.guest_mem.specs.Guest.{with_bytes}
+use Rattle.rv_run.specs.Machine.{State, Action, Goes, Takes, Exits, Stops, Traps, row, action_of, value_of, counted}
 
 -- ---- whole runs
 
@@ -56,6 +57,11 @@ abbrev pub TakesUpTo : (n : ℕ) (old new : Option (List ℕ)) (bytes : List ℕ
 TakesUpTo n None new bytes = length bytes ≤ n
 TakesUpTo n (Some left) new bytes = (bytes ≡ take n left) × (new ≡ Some (drop n left))
 
+-- a front of what was left was taken, where the source tells
+abbrev pub TakesFront : (bytes : List ℕ) (old new : Option (List ℕ)) → Type 0
+TakesFront bytes None new = Unit {0}
+TakesFront bytes (Some left) new = (bytes ≡ take (length bytes) left) × (new ≡ Some (drop (length bytes) left))
+
 -- an instruction went on
 abbrev pub GoesOn : Action → (new : State) (before after : Streams) → Type 0
 GoesOn (Goes bytes t) new before after = (new ≡ t) × (after.left ≡ before.left) × Appends before.written after.written bytes
@@ -66,32 +72,43 @@ GoesOn (Traps kind) new before after = ⊥
 
 -- the sink refused what an instruction writes, after a front of it
 abbrev pub IsCutShort : Action → (before after : Streams) → Type 0
-IsCutShort (Goes bytes t) before after = AppendsFront before.written after.written bytes
+IsCutShort (Goes bytes t) before after = (after.left ≡ before.left) × AppendsFront before.written after.written bytes
 IsCutShort (Takes n t) before after = ⊥
 IsCutShort (Exits status) before after = ⊥
 IsCutShort (Stops kind block offset width) before after = ⊥
 IsCutShort (Traps kind) before after = ⊥
 
--- the source failed while an instruction took from it
-abbrev pub IsReadCut : Action → (before after : Streams) → Type 0
-IsReadCut (Takes n t) before after = after.written ≡ before.written
-IsReadCut (Goes bytes t) before after = ⊥
-IsReadCut (Exits status) before after = ⊥
-IsReadCut (Stops kind block offset width) before after = ⊥
-IsReadCut (Traps kind) before after = ⊥
+-- the source failed while an instruction took from it, and the buffer begins with what was taken
+abbrev pub IsReadCut : Action → (old new : State) (before after : Streams) → Type 0
+IsReadCut (Takes n t) old new before after =
+    (bytes : List ℕ) × (with_bytes old.memory (value_of old 11) bytes ≡ Some new.memory) × (new ≡ counted (record old { memory = new.memory }))
+      × TakesFront bytes before.left after.left × (length bytes ≤ n) × (after.written ≡ before.written)
+IsReadCut (Goes bytes t) old new before after = ⊥
+IsReadCut (Exits status) old new before after = ⊥
+IsReadCut (Stops kind block offset width) old new before after = ⊥
+IsReadCut (Traps kind) old new before after = ⊥
 
--- an instruction ended the run
-abbrev pub EndsBy : Action → Stop → (old : State) (before after : Streams) → Type 0
-EndsBy action (stop.Exit status) old before after = (action ≡ Exits status) × (after ≡ before)
-EndsBy action (stop.StopCall kind block offset width) old before after = (action ≡ Stops kind block offset width) × (after ≡ before)
-EndsBy action (stop.Trap kind pc) old before after = (action ≡ Traps kind) × (pc ≡ old.pc) × (after ≡ before)
-EndsBy action stop.WriteFault old before after = IsCutShort action before after
-EndsBy action stop.NoMemory old before after = IsCutShort action before after
-EndsBy action stop.ReadFault old before after = IsReadCut action before after
-EndsBy action stop.Steps old before after = ⊥
+-- an instruction ended the run; but for a fault of the source it left the state as it was, and counts
+abbrev pub EndsBy : Action → Stop → (old new : State) (before after : Streams) → Type 0
+EndsBy action (stop.Exit status) old new before after = (action ≡ Exits status) × (new ≡ counted old) × (after ≡ before)
+EndsBy action (stop.StopCall kind block offset width) old new before after = (action ≡ Stops kind block offset width) × (new ≡ counted old) × (after ≡ before)
+EndsBy action (stop.Trap kind pc) old new before after = (action ≡ Traps kind) × (pc ≡ old.pc) × (new ≡ counted old) × (after ≡ before)
+EndsBy action stop.WriteFault old new before after = IsCutShort action before after × (new ≡ counted old)
+EndsBy action stop.NoMemory old new before after = IsCutShort action before after × (new ≡ counted old)
+EndsBy action stop.ReadFault old new before after = IsReadCut action old new before after
+EndsBy action stop.Steps old new before after = ⊥
 
--- One step. An end leaves the state as it was but for the count; after a fault of the source the buffer begins with the
--- bytes that were taken.
+-- one step of the program is one instruction of the machine
 abbrev pub Performs : Action → Step → (old new : State) (before after : Streams) → Type 0
 Performs action step.Next old new before after = GoesOn action new before after
-Performs action (step.Ended stop) old new before after = EndsBy action stop old before after
+Performs action (step.Ended stop) old new before after = EndsBy action stop old new before after
+
+-- what an instruction that asks nothing of the outside leaves of the state
+abbrev pub MeetsRow : Action → (old new : State) → Result (Unit {0}) TrapKind → Type 0
+MeetsRow action old new (Ok _) = action ≡ Goes [] new
+MeetsRow action old new (Err kind) = (action ≡ Traps kind) × (new ≡ old)
+
+-- which instruction the state asks for
+abbrev pub FindsRow : State → Result Inst TrapKind → Type 0
+FindsRow s (Ok inst) = action_of s ≡ row inst s
+FindsRow s (Err kind) = action_of s ≡ Traps kind

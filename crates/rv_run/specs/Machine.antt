@@ -1,6 +1,6 @@
 -- The machine: its state, and what the instruction at its pc does to it, one row for each instruction.
 -- Read it beside the RISC-V manual: registers, addresses and words are numbers below 2 ^ 32, and every sum is modulo that.
-use Rattle.std.specs.Prelude.{ℕ, ◌+◌, ◌-◌, ◌*◌, ◌/◌, ◌%◌, ◌^◌, ◌==◌, nat_lt, nat_le, ◌&&◌, if◌then◌else◌, List, [], length, replicate, slice_index, slice_set, bit_and, bit_or, bit_xor, Bool, not, Option, Some, None, unwrap_or, Result, Ok, Err, ℤ, int_lt}
+use Rattle.std.specs.Prelude.{◌≡◌, ℕ, ◌+◌, ◌-◌, ◌*◌, ◌/◌, ◌%◌, ◌^◌, ◌==◌, nat_lt, nat_le, ◌&&◌, if◌then◌else◌, List, [], length, replicate, slice_index, slice_set, bit_and, bit_or, bit_xor, Bool, not, Option, Some, None, unwrap_or, Result, Ok, Err, ℤ, int_lt}
 use Rattle.std.specs.Int.{w32, cast_unsigned}
 use Rattle.fsc_base.specs.declared.image.Image.{Image}
 use Rattle.guest_mem.specs.Regions.{Region}
@@ -117,11 +117,19 @@ branches taken imm s = if taken then arrives (offset_by s imm) s else goes (next
 abbrev pub sign_extended : (width value : ℕ) → ℕ
 sign_extended width value = if nat_lt value (2 ^ (width - 1)) then value else value + (2 ^ 32 - 2 ^ width)
 
+-- the trap of a refused load, and of a refused store
+abbrev pub load_trap : Fault → TrapKind
+load_trap fault.Misaligned = trap.Misaligned
+load_trap fault.Outside = trap.Load
+
+abbrev pub store_trap : Fault → TrapKind
+store_trap fault.Misaligned = trap.Misaligned
+store_trap fault.Outside = trap.Store
+
 -- a register becomes what a load gave, or the load was refused
 abbrev pub got : (rd : ℕ) → (ℕ → ℕ) → State → Result ℕ Fault → Action
 got rd extended s (Ok value) = gives rd (extended value) s
-got rd extended s (Err fault.Misaligned) = Traps trap.Misaligned
-got rd extended s (Err fault.Outside) = Traps trap.Load
+got rd extended s (Err why) = Traps (load_trap why)
 
 abbrev pub loads : (width rd rs1 : ℕ) (imm : ℤ) → (ℕ → ℕ) → State → Action
 loads width rd rs1 imm extended s = got rd extended s (loaded width s.memory (sum_of s rs1 imm))
@@ -129,11 +137,10 @@ loads width rd rs1 imm extended s = got rd extended s (loaded width s.memory (su
 -- memory becomes what a store left, or the store was refused
 abbrev pub put : State → Result (List Region) Fault → Action
 put s (Ok memory) = goes (next (record s { memory = memory }))
-put s (Err fault.Misaligned) = Traps trap.Misaligned
-put s (Err fault.Outside) = Traps trap.Store
+put s (Err why) = Traps (store_trap why)
 
-abbrev pub stores : (width rs1 rs2 : ℕ) (imm : ℤ) → State → Action
-stores width rs1 rs2 imm s = put s (stored width s.memory (sum_of s rs1 imm) (value_of s rs2))
+abbrev pub stores : (width rs1 : ℕ) (imm : ℤ) (value : ℕ) → State → Action
+stores width rs1 imm value s = put s (stored width s.memory (sum_of s rs1 imm) value)
 
 -- ---- environment calls, by the number in x17
 
@@ -194,9 +201,9 @@ row (Lh rd rs1 imm) s = loads 2 rd rs1 imm (sign_extended 16) s
 row (Lw rd rs1 imm) s = loads 4 rd rs1 imm (λ value. value) s
 row (Lbu rd rs1 imm) s = loads 1 rd rs1 imm (λ value. value) s
 row (Lhu rd rs1 imm) s = loads 2 rd rs1 imm (λ value. value) s
-row (Sb rs1 rs2 imm) s = stores 1 rs1 rs2 imm s
-row (Sh rs1 rs2 imm) s = stores 2 rs1 rs2 imm s
-row (Sw rs1 rs2 imm) s = stores 4 rs1 rs2 imm s
+row (Sb rs1 rs2 imm) s = stores 1 rs1 imm (value_of s rs2 % 2 ^ 8) s
+row (Sh rs1 rs2 imm) s = stores 2 rs1 imm (value_of s rs2 % 2 ^ 16) s
+row (Sw rs1 rs2 imm) s = stores 4 rs1 imm (value_of s rs2) s
 row (Addi rd rs1 imm) s = gives rd (sum_of s rs1 imm) (with_mark (is_mark rd rs1 imm) s)
 row (Slti rd rs1 imm) s = gives rd (slt (value_of s rs1) (bits_of imm)) s
 row (Sltiu rd rs1 imm) s = gives rd (sltu (value_of s rs1) (bits_of imm)) s
@@ -242,3 +249,8 @@ fetched_word s (Ok word) = spelled s (decoded word)
 -- what the machine does next
 unfoldable pub action_of : State → Action
 action_of s = fetched_word s (fetched s.memory s.pc)
+
+-- a word, where the load of it is not refused
+abbrev pub WordIs : Result ℕ Fault → Option ℕ → Type 0
+WordIs (Ok word) answer = answer ≡ Some word
+WordIs (Err fault) answer = answer ≡ None

@@ -4,12 +4,9 @@
 
 mod environment;
 mod machine;
-mod memory;
+mod registers;
 mod rows;
 mod stop;
 
 pub use machine::Machine;
 pub use stop::{Step, Stop, TrapKind};
-
-#[cfg(test)]
-mod tests;

@@ -1,92 +1,154 @@
-//! One row for each instruction that asks nothing of the environment.
+//! The rows of instructions that load and store.
 
-ghost use Rattle.std.specs.Prelude.{◌≡◌, ◌+◌, ◌^◌, ◌<◌, true};
-ghost use Rattle.rv_isa.specs.Encoding.{IsUnsigned20};
-ghost use Rattle.rv_run.specs.Machine.{value_of, with_register, sum_of, next, with_mark, lui, addi, sb, goes};
+ghost use Rattle.std.specs.Prelude.{◌≡◌, ◌≢◌, ◌+◌, ◌%◌, ◌^◌, ◌<◌};
+ghost use Rattle.rv_run.specs.Machine.{sign_extended, load_trap, loads, stores, value_of};
 ghost use Rattle.rv_run.specs.ImageRun.{MeetsRow};
 
 use crate::machine::Machine;
+use crate::registers::Done;
 use crate::stop::TrapKind;
+use guest_mem::{Fault, StoreNo};
 use rv_isa::Reg;
 
+/// A byte, read as signed, in 32 bits.
+fn extend8(value: u8) -> u32
+    ensures { result ≡ sign_extended 8 value }
+{
+    let value = u32::from(value);
+    if value < 0x80 { value } else { value + 0xffff_ff00 }
+}
+
+/// A half word, read as signed, in 32 bits.
+fn extend16(value: u16) -> u32
+    ensures { result ≡ sign_extended 16 value }
+{
+    let value = u32::from(value);
+    if value < 0x8000 { value } else { value + 0xffff_0000 }
+}
+
+/// The trap of a refused load.
+fn load_trap(fault: Fault) -> TrapKind
+    ensures { result ≡ load_trap fault }
+{
+    match fault {
+        Fault::Misaligned => TrapKind::Misaligned,
+        Fault::Outside => TrapKind::Load,
+    }
+}
+
+/// The trap of a refused store, which is never refused for want of memory.
+fn store_trap(refusal: StoreNo) -> TrapKind
+    requires { refusal ≢ StoreNo.NoMemory }
+    ensures misaligned { refusal ≡ StoreNo.Misaligned → result ≡ TrapKind.Misaligned }
+    ensures outside { refusal ≡ StoreNo.Outside → result ≡ TrapKind.Store }
+{
+    match refusal {
+        StoreNo::Misaligned => TrapKind::Misaligned,
+        StoreNo::Outside => TrapKind::Store,
+        StoreNo::NoMemory => unreachable!(),
+    }
+}
+
 impl Machine {
-    /// What a register holds.
-    pub(crate) fn value(&self, r: Reg) -> u32
-        ensures { result ≡ value_of self.now r }
+    /// LB.
+    pub(crate) fn lb(&mut self, rd: Reg, rs1: Reg, imm: i32) -> Done
+        requires { self.old.count + 1 < 2 ^ 64 }
+        ensures { MeetsRow (loads 1 rd rs1 imm (sign_extended 8) self.old) self.old self.new result }
     {
-        self.registers[r.number() as usize]
-    }
-
-    /// Makes `value` what a register holds, but for x0.
-    pub(crate) fn set_register(&mut self, r: Reg, value: u32)
-        ensures { self.new ≡ with_register self.old r value }
-    {
-        if r.number() != 0 {
-            self.registers[r.number() as usize] = value;
+        match self.memory.load8(self.sum(rs1, imm)) {
+            Ok(value) => self.give(rd, extend8(value)),
+            Err(fault) => return Err(load_trap(fault)),
         }
+        Ok(())
     }
 
-    /// The sum of a register and an immediate, modulo 2^32.
-    fn sum(&self, r: Reg, imm: i32) -> u32
-        ensures { result ≡ sum_of self.now r imm }
-    {
-        self.value(r).wrapping_add(imm.cast_unsigned())
-    }
-
-    /// Counts the instruction and goes on to the one behind it.
-    pub(crate) fn advance(&mut self)
+    /// LH.
+    pub(crate) fn lh(&mut self, rd: Reg, rs1: Reg, imm: i32) -> Done
         requires { self.old.count + 1 < 2 ^ 64 }
-        ensures { self.new ≡ next self.old }
+        ensures { MeetsRow (loads 2 rd rs1 imm (sign_extended 16) self.old) self.old self.new result }
     {
-        self.pc = self.pc.wrapping_add(4);
-        self.count += 1;
-    }
-
-    /// Counts the mark, and goes on to the instruction behind it.
-    fn advance_past_mark(&mut self)
-        requires { self.old.count + 1 < 2 ^ 64 }
-        ensures { self.new ≡ next (with_mark true self.old) }
-    {
-        self.pc = self.pc.wrapping_add(4);
-        self.count += 1;
-        self.marks += 1;
-    }
-
-    /// LUI.
-    pub(crate) fn lui(&mut self, rd: Reg, imm: i32)
-        requires counts { self.old.count + 1 < 2 ^ 64 }
-        requires fits { IsUnsigned20 imm }
-        ensures { goes self.new ≡ lui rd imm self.old }
-    {
-        self.set_register(rd, imm.cast_unsigned() << 12);
-        self.advance();
-    }
-
-    /// ADDI, and with it the mark.
-    pub(crate) fn addi(&mut self, rd: Reg, rs1: Reg, imm: i32)
-        requires { self.old.count + 1 < 2 ^ 64 }
-        ensures { goes self.new ≡ addi rd rs1 imm self.old }
-    {
-        let sum = self.sum(rs1, imm);
-        self.set_register(rd, sum);
-        if rd.number() == 0 && rs1.number() == 0 && imm == 1 {
-            self.advance_past_mark();
-        } else {
-            self.advance();
+        match self.memory.load16(self.sum(rs1, imm)) {
+            Ok(value) => self.give(rd, extend16(value)),
+            Err(fault) => return Err(load_trap(fault)),
         }
+        Ok(())
+    }
+
+    /// LW.
+    pub(crate) fn lw(&mut self, rd: Reg, rs1: Reg, imm: i32) -> Done
+        requires { self.old.count + 1 < 2 ^ 64 }
+        ensures { MeetsRow (loads 4 rd rs1 imm (λ value. value) self.old) self.old self.new result }
+    {
+        match self.memory.load32(self.sum(rs1, imm)) {
+            Ok(value) => self.give(rd, value),
+            Err(fault) => return Err(load_trap(fault)),
+        }
+        Ok(())
+    }
+
+    /// LBU.
+    pub(crate) fn lbu(&mut self, rd: Reg, rs1: Reg, imm: i32) -> Done
+        requires { self.old.count + 1 < 2 ^ 64 }
+        ensures { MeetsRow (loads 1 rd rs1 imm (λ value. value) self.old) self.old self.new result }
+    {
+        match self.memory.load8(self.sum(rs1, imm)) {
+            Ok(value) => self.give(rd, u32::from(value)),
+            Err(fault) => return Err(load_trap(fault)),
+        }
+        Ok(())
+    }
+
+    /// LHU.
+    pub(crate) fn lhu(&mut self, rd: Reg, rs1: Reg, imm: i32) -> Done
+        requires { self.old.count + 1 < 2 ^ 64 }
+        ensures { MeetsRow (loads 2 rd rs1 imm (λ value. value) self.old) self.old self.new result }
+    {
+        match self.memory.load16(self.sum(rs1, imm)) {
+            Ok(value) => self.give(rd, u32::from(value)),
+            Err(fault) => return Err(load_trap(fault)),
+        }
+        Ok(())
     }
 
     /// SB.
-    pub(crate) fn sb(&mut self, rs1: Reg, rs2: Reg, imm: i32) -> Result<(), TrapKind>
+    pub(crate) fn sb(&mut self, rs1: Reg, rs2: Reg, imm: i32) -> Done
         requires { self.old.count + 1 < 2 ^ 64 }
-        ensures { MeetsRow (sb rs1 rs2 imm self.old) self.old self.new result }
+        ensures { MeetsRow (stores 1 rs1 imm (value_of self.old rs2 % 2 ^ 8) self.old) self.old self.new result }
     {
         let at = self.sum(rs1, imm);
-        let byte = (self.value(rs2) & 0xff) as u8;
-        if self.memory.write_byte(at, byte).is_err() {
-            return Err(TrapKind::Store);
+        let value = (self.value(rs2) & 0xff) as u8;
+        match self.memory.store8(at, value) {
+            Ok(()) => self.advance(),
+            Err(refusal) => return Err(store_trap(refusal)),
         }
-        self.advance();
+        Ok(())
+    }
+
+    /// SH.
+    pub(crate) fn sh(&mut self, rs1: Reg, rs2: Reg, imm: i32) -> Done
+        requires { self.old.count + 1 < 2 ^ 64 }
+        ensures { MeetsRow (stores 2 rs1 imm (value_of self.old rs2 % 2 ^ 16) self.old) self.old self.new result }
+    {
+        let at = self.sum(rs1, imm);
+        let value = (self.value(rs2) & 0xffff) as u16;
+        match self.memory.store16(at, value) {
+            Ok(()) => self.advance(),
+            Err(refusal) => return Err(store_trap(refusal)),
+        }
+        Ok(())
+    }
+
+    /// SW.
+    pub(crate) fn sw(&mut self, rs1: Reg, rs2: Reg, imm: i32) -> Done
+        requires { self.old.count + 1 < 2 ^ 64 }
+        ensures { MeetsRow (stores 4 rs1 imm (value_of self.old rs2) self.old) self.old self.new result }
+    {
+        let at = self.sum(rs1, imm);
+        let value = self.value(rs2);
+        match self.memory.store32(at, value) {
+            Ok(()) => self.advance(),
+            Err(refusal) => return Err(store_trap(refusal)),
+        }
         Ok(())
     }
 }

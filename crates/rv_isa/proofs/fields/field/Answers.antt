@@ -1,6 +1,6 @@
 use Rattle.std.proofs.Common.{◌≡◌, ◌*◌, ◌%◌, ◌^◌}
 use Rattle.std.proofs.lemmas.Nat.{one_shl, and_mask}
-use Rattle.rv_isa.proofs.decoding.field.Goals as goal
+use Rattle.rv_isa.proofs.fields.field.Goals as goal
 
 pub returns-clause-same : goal.returns-clause-same
 returns-clause-same c =
