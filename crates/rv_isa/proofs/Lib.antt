@@ -1,3 +1,2 @@
 pub mod Formats
-
--- pub mod Tables
+pub mod Tables

@@ -231,7 +231,16 @@ fn decode_any(code: u32) -> Option<Inst>
 
 /// The instruction that a word spells, or None exactly where it spells none.
 pub fn decode(code: u32) -> Option<Inst>
-    ensures { result ≡ decoded code }
+    ensures found { IfSome result (Spells code) }
+    ensures only { (inst : Inst) → Spells code inst → result ≡ Some inst }
+    ensures table { result ≡ decoded code }
 {
     decode_any(code)
 }
+
+/// The law of the table. The word of an instruction decodes to the instruction, and what a word decodes to has that
+/// word.
+pub fn round_trips()
+    ensures instruction { (inst : Inst) → IsValid inst → NamesRegisters inst → (encoding inst < 2 ^ 32) × (decoded (encoding inst) ≡ Some inst) }
+    ensures word { (code : ℕ) → code < 2 ^ 32 → IfSome (decoded code) (Spells code) }
+{}

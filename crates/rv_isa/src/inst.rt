@@ -5,8 +5,8 @@ ghost use Rattle.rv_isa.specs.Encoding.{IsBranchOffset, IsEven, IsJumpOffset, Is
 
 use crate::reg::Reg;
 
-/// An instruction. Its immediate is the number that the assembler's line has: an even offset in bytes in jumps and
-/// branches, and a count in shifts.
+/// An instruction. Its immediate is the number that the assembler's line has: 0 to 2^20 - 1 in LUI and AUIPC, an even
+/// offset in bytes in JAL and the branches, 0 to 31 in the shifts, and else -2048 to 2047.
 #[derive(Clone, Copy, Debug, PartialEq, Eq)]
 pub enum Inst {
     /// `rd` becomes `imm` shifted left by 12 bits.
@@ -88,7 +88,7 @@ pub enum Inst {
     Fence { rd: Reg, rs1: Reg, imm: i32 },
     /// Asks the environment for the service in x17.
     Ecall,
-    /// Hands over to a debugger.
+    /// Hands over to a debugging environment.
     Ebreak,
     /// `rd` becomes the low 32 bits of the product of `rs1` and `rs2`.
     Mul { rd: Reg, rs1: Reg, rs2: Reg },
@@ -98,13 +98,13 @@ pub enum Inst {
     Mulhsu { rd: Reg, rs1: Reg, rs2: Reg },
     /// `rd` becomes the high 32 bits of the product of `rs1` and `rs2`, both unsigned.
     Mulhu { rd: Reg, rs1: Reg, rs2: Reg },
-    /// `rd` becomes the quotient of `rs1` and `rs2`, both signed, rounded towards 0.
+    /// `rd` becomes the signed quotient of `rs1` and `rs2`, rounded towards 0; -1 where `rs2` is 0, `rs1` on overflow.
     Div { rd: Reg, rs1: Reg, rs2: Reg },
-    /// `rd` becomes the quotient of `rs1` and `rs2`, both unsigned.
+    /// `rd` becomes the unsigned quotient of `rs1` and `rs2`; all ones where `rs2` is 0.
     Divu { rd: Reg, rs1: Reg, rs2: Reg },
-    /// `rd` becomes the remainder of that signed division, with the sign of `rs1`.
+    /// `rd` becomes the signed remainder of `rs1` and `rs2`; `rs1` where `rs2` is 0, 0 on overflow.
     Rem { rd: Reg, rs1: Reg, rs2: Reg },
-    /// `rd` becomes the remainder of that unsigned division.
+    /// `rd` becomes the unsigned remainder of `rs1` and `rs2`; `rs1` where `rs2` is 0.
     Remu { rd: Reg, rs1: Reg, rs2: Reg },
 }
 

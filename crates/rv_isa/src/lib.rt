@@ -8,8 +8,10 @@ mod fields;
 mod inst;
 mod opcode;
 mod reg;
+#[cfg(test)]
+mod tests;
 
-pub use decoding::decode;
+pub use decoding::{decode, round_trips};
 pub use encoding::encode;
 pub use inst::Inst;
 pub use reg::Reg;

@@ -112,3 +112,37 @@ MeetsRow action old new (Err kind) = (action ≡ Traps kind) × (new ≡ old)
 abbrev pub FindsRow : State → Result Inst TrapKind → Type 0
 FindsRow s (Ok inst) = action_of s ≡ row inst s
 FindsRow s (Err kind) = action_of s ≡ Traps kind
+
+-- a step that ends by a stop of the program's own, or by a trap
+abbrev pub StopsBy : Action → (pc : ℕ) → Step → Type 0
+StopsBy (Stops kind block offset width) pc answer = answer ≡ step.Ended (stop.StopCall kind block offset width)
+StopsBy (Traps kind) pc answer = answer ≡ step.Ended (stop.Trap kind pc)
+StopsBy (Goes bytes t) pc answer = ⊥
+StopsBy (Takes n t) pc answer = ⊥
+StopsBy (Exits status) pc answer = ⊥
+
+-- ---- how the program carries out a whole run
+
+-- The run is known where the source tells what it has left, or where it asks the source for nothing.
+abbrev pub IsKnown : (told : Option (List ℕ)) (given : List ℕ) (asked : ℕ) → Type 0
+IsKnown told given asked = (told ≡ Some given) ⊎ (asked ≡ 0)
+
+-- what is left of the input, where the source tells
+abbrev pub LeavesInput : (before after : Option (List ℕ)) (left : List ℕ) → Type 0
+LeavesInput None after left = Unit {0}
+LeavesInput (Some given) after left = after ≡ Some left
+
+-- the program ran all of this, and stopped so
+abbrev pub RunsWhole : ImageRun → Stop → State → (before after : Streams) → Type 0
+RunsWhole run stop new before after =
+    (stop ≡ run.stop) × (new ≡ run.machine) × Appends before.written after.written run.written × LeavesInput before.left after.left run.left
+
+-- the program ran this whole, or up to where the outside refused something
+abbrev pub Runs : ImageRun → Stop → State → (before after : Streams) → Type 0
+Runs run (stop.Exit status) new before after = RunsWhole run (stop.Exit status) new before after
+Runs run (stop.StopCall kind block offset width) new before after = RunsWhole run (stop.StopCall kind block offset width) new before after
+Runs run (stop.Trap kind pc) new before after = RunsWhole run (stop.Trap kind pc) new before after
+Runs run stop.Steps new before after = RunsWhole run stop.Steps new before after
+Runs run stop.ReadFault new before after = AppendsFront before.written after.written run.written
+Runs run stop.WriteFault new before after = AppendsFront before.written after.written run.written
+Runs run stop.NoMemory new before after = AppendsFront before.written after.written run.written

@@ -75,6 +75,10 @@ gives rd value s = goes (next (with_register s rd value))
 abbrev pub bits_of : ℤ → ℕ
 bits_of imm = cast_unsigned w32 imm
 
+-- the sum of a register and an immediate
+abbrev pub sum_of : State → ℕ → ℤ → ℕ
+sum_of s r imm = (value_of s r + bits_of imm) % 2 ^ 32
+
 -- an immediate of format U, which stands for the upper bits
 abbrev pub upper_of : ℤ → ℕ
 upper_of imm = bits_of imm * 2 ^ 12
@@ -85,6 +89,9 @@ is_mark rd rs1 imm = (rd == 0) && ((rs1 == 0) && (bits_of imm == 1))
 
 abbrev pub with_mark : Bool → State → State
 with_mark is_one s = if is_one then record s { marks = s.marks + 1 } else s
+
+abbrev pub addi : (rd rs1 : ℕ) (imm : ℤ) → State → Action
+addi rd rs1 imm s = goes (next (with_mark (is_mark rd rs1 imm) (with_register s rd (sum_of s rs1 imm))))
 
 -- ---- instructions that jump
 
@@ -99,10 +106,6 @@ offset_by s imm = (s.pc + bits_of imm) % 2 ^ 32
 -- the register becomes the address behind the instruction
 abbrev pub links : (rd target : ℕ) → State → Action
 links rd target s = arrives target (with_register s rd (following s))
-
--- the sum of a register and an immediate
-abbrev pub sum_of : State → ℕ → ℤ → ℕ
-sum_of s r imm = (value_of s r + bits_of imm) % 2 ^ 32
 
 -- with the lowest bit cleared
 abbrev pub even_of : ℕ → ℕ
@@ -204,7 +207,7 @@ row (Lhu rd rs1 imm) s = loads 2 rd rs1 imm (λ value. value) s
 row (Sb rs1 rs2 imm) s = stores 1 rs1 imm (value_of s rs2 % 2 ^ 8) s
 row (Sh rs1 rs2 imm) s = stores 2 rs1 imm (value_of s rs2 % 2 ^ 16) s
 row (Sw rs1 rs2 imm) s = stores 4 rs1 imm (value_of s rs2) s
-row (Addi rd rs1 imm) s = gives rd (sum_of s rs1 imm) (with_mark (is_mark rd rs1 imm) s)
+row (Addi rd rs1 imm) s = addi rd rs1 imm s
 row (Slti rd rs1 imm) s = gives rd (slt (value_of s rs1) (bits_of imm)) s
 row (Sltiu rd rs1 imm) s = gives rd (sltu (value_of s rs1) (bits_of imm)) s
 row (Xori rd rs1 imm) s = gives rd (bit_xor (value_of s rs1) (bits_of imm)) s

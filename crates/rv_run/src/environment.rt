@@ -1,1 +1,90 @@
-//! Environment calls.
+//! Environment calls, by the number in x17: 63 reads, 64 writes, 93 exits and 4000 stops.
+
+ghost use Rattle.std.specs.Prelude.{◌≡◌, ◌+◌, ◌%◌, ◌^◌, ◌<◌, ◌≤◌};
+ghost use Rattle.fsc_outside.specs.Counts.{Rose};
+ghost use Rattle.rv_run.specs.Machine.{value_of, with_register, counted, next, read_call, write_call, stop_call, ecall};
+ghost use Rattle.rv_run.specs.ImageRun.{StopsBy, Performs};
+
+use crate::machine::Machine;
+use crate::stop::{Step, Stop, TrapKind};
+use fsc_outside::{Sink, Source, Wrote};
+use guest_mem::Right;
+use rv_isa::Reg;
+
+/// The number of the call that reads.
+const READ: u32 = 63;
+
+/// The number of the call that writes.
+const WRITE: u32 = 64;
+
+/// The number of the call that exits.
+const EXIT: u32 = 93;
+
+/// The number of the call that stops.
+const STOP: u32 = 4000;
+
+/// The one stream that is read from.
+const INPUT: u32 = 0;
+
+/// The one stream that is written to.
+const OUTPUT: u32 = 1;
+
+/// The last kind of stop; the first is 1.
+const LAST_KIND: u32 = 7;
+
+impl Machine {
+    /// ECALL: the call of that number, or a trap where there is none.
+    pub(crate) fn ecall<S: Source, O: Sink>(&mut self, input: &mut S, out: &mut O) -> Step
+        requires { self.old.count + 1 < 2 ^ 64 }
+        ensures row { Performs (ecall self.old) result self.old self.new
+            (record { left = S.left input.old; written = O.written out.old }) (record { left = S.left input.new; written = O.written out.new }) }
+        ensures read_failed { result ≡ Step.Ended Stop.ReadFault → Rose (S.fault_count input.old) (S.fault_count input.new) }
+        ensures write_failed { result ≡ Step.Ended Stop.WriteFault → Rose (O.fault_count out.old) (O.fault_count out.new) }
+        ensures read_counted { S.fault_count input.old ≤ S.fault_count input.new }
+        ensures write_counted { O.fault_count out.old ≤ O.fault_count out.new }
+    {
+        match self.registers[17] {
+            EXIT => self.exit_call(),
+            STOP => self.stop_call(),
+            _ => self.trap(TrapKind::Call),
+        }
+    }
+
+    /// Exits with the low 8 bits of x10.
+    fn exit_call(&mut self) -> Step
+        requires { self.old.count + 1 < 2 ^ 64 }
+        ensures counted { self.new ≡ counted self.old }
+        ensures ended { result ≡ Step.Ended (Stop.Exit (value_of self.old 10 % 2 ^ 8)) }
+    {
+        let status = (self.registers[10] & 0xff) as u8;
+        self.end(Stop::Exit(status))
+    }
+
+    /// Stops with the kind in x10, from 1 to 7, and the block, offset and width in x11 to x13.
+    fn stop_call(&mut self) -> Step
+        requires { self.old.count + 1 < 2 ^ 64 }
+        ensures counted { self.new ≡ counted self.old }
+        ensures ended { StopsBy (stop_call self.old) self.old.pc result }
+    {
+        let kind = self.registers[10];
+        let block = self.registers[11];
+        let offset = self.registers[12];
+        let width = self.registers[13];
+        if 1 <= kind && kind <= LAST_KIND {
+            self.end(Stop::StopCall { kind, block, offset, width })
+        } else {
+            self.trap(TrapKind::Call)
+        }
+    }
+
+    /// The call is done: x10 becomes the number of bytes that it moved, and the run goes on.
+    fn moved(&mut self, length: u32) -> Step
+        requires { self.old.count + 1 < 2 ^ 64 }
+        ensures state { self.new ≡ next (with_register self.old 10 length) }
+        ensures next { result ≡ Step.Next }
+    {
+        self.set_register(Reg::new(10), length);
+        self.advance();
+        Step::Next
+    }
+}

@@ -7,6 +7,7 @@ mod machine;
 mod registers;
 mod rows;
 mod stop;
+mod table;
 
 pub use machine::Machine;
 pub use stop::{Step, Stop, TrapKind};

@@ -1,13 +1,16 @@
 //! The machine and its runs.
 
-ghost use Rattle.std.specs.Prelude.{◌≡◌, IfOk, slice_index};
+ghost use Rattle.std.specs.Prelude.{◌≡◌, ◌+◌, ◌^◌, ◌<◌, IfOk, slice_index};
 ghost use Rattle.fsc_base.specs.Image.{IsSound};
 ghost use Rattle.guest_mem.specs.Guest.{loaded};
-ghost use Rattle.rv_run.specs.Machine.{start_of, WordIs};
+ghost use Rattle.rv_run.specs.Machine.{start_of, counted, WordIs};
+ghost use Rattle.rv_isa.specs.Encoding.{IsValid};
+ghost use Rattle.rv_run.specs.ImageRun.{FindsRow};
 
+use crate::stop::{Step, Stop, TrapKind};
 use fsc_base::{Image, NoMemory};
-use guest_mem::Guest;
-use rv_isa::Reg;
+use guest_mem::{Fault, Guest};
+use rv_isa::{Inst, Reg, decode};
 use std::alloc::Global;
 use std::marker::Model;
 
@@ -81,5 +84,41 @@ impl Machine {
         ensures { WordIs (loaded 4 self.now.memory at) result }
     {
         self.memory.load32(at).ok()
+    }
+
+    /// The instruction at the pc, or why there is none.
+    #[tactic(auto, unfolding(crate::specs::Machine::action_of))]
+    fn instruction(&self) -> Result<Inst, TrapKind>
+        ensures found { FindsRow self.now result }
+        ensures valid { IfOk result IsValid }
+    {
+        match self.memory.fetch(self.pc) {
+            Ok(word) => match decode(word) {
+                Some(inst) => Ok(inst),
+                None => Err(TrapKind::Illegal),
+            },
+            Err(Fault::Misaligned) => Err(TrapKind::Misaligned),
+            Err(Fault::Outside) => Err(TrapKind::Fetch),
+        }
+    }
+
+    /// Ends the run by a trap.
+    pub(crate) fn trap(&mut self, kind: TrapKind) -> Step
+        requires { self.old.count + 1 < 2 ^ 64 }
+        ensures counted { self.new ≡ counted self.old }
+        ensures ended { result ≡ Step.Ended (Stop.Trap kind self.old.pc) }
+    {
+        let pc = self.pc;
+        self.end(Stop::Trap { kind, pc })
+    }
+
+    /// Ends the run: the instruction counts, and all else stays.
+    pub(crate) fn end(&mut self, stop: Stop) -> Step
+        requires { self.old.count + 1 < 2 ^ 64 }
+        ensures counted { self.new ≡ counted self.old }
+        ensures ended { result ≡ Step.Ended stop }
+    {
+        self.count += 1;
+        Step::Ended(stop)
     }
 }

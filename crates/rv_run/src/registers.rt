@@ -1,7 +1,7 @@
 //! Registers, and the way from one instruction to the next.
 
 ghost use Rattle.std.specs.Prelude.{◌≡◌, ◌+◌, ◌^◌, ◌<◌, true, Ok, Err};
-ghost use Rattle.rv_run.specs.Machine.{value_of, with_register, following, counted, next, sum_of, offset_by, with_mark, arrives, links, branches, gives, goes};
+ghost use Rattle.rv_run.specs.Machine.{value_of, with_register, following, counted, next, sum_of, offset_by, with_mark, arrives, links, branches, gives, addi, goes};
 ghost use Rattle.rv_run.specs.ImageRun.{MeetsRow};
 
 use crate::machine::Machine;
@@ -61,6 +61,20 @@ impl Machine {
     {
         self.set_register(rd, value);
         self.advance();
+    }
+
+    /// ADDI, and with it the mark.
+    pub(crate) fn addi(&mut self, rd: Reg, rs1: Reg, imm: i32)
+        requires { self.old.count + 1 < 2 ^ 64 }
+        ensures { goes self.new ≡ addi rd rs1 imm self.old }
+    {
+        let sum = self.sum(rs1, imm);
+        self.set_register(rd, sum);
+        if rd.number() == 0 && rs1.number() == 0 && imm == 1 {
+            self.advance_past_mark();
+        } else {
+            self.advance();
+        }
     }
 
     /// Goes on at a target, which has to be a multiple of 4.
