@@ -1,3 +1,4 @@
+pub mod Filling
 pub mod Guest
 pub mod Regions
 pub mod Rights

@@ -11,9 +11,9 @@ use std::marker::Model;
 /// A segment in memory, with all its bytes. Contracts see it as the region.
 #[derive(Debug, Drop)]
 pub struct FlatRegion {
-    address: u32,
+    pub(crate) address: u32,
     flags: u32,
-    bytes: Vec<u8>,
+    pub(crate) bytes: Vec<u8>,
 }
 
 impl Model for FlatRegion {

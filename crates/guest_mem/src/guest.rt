@@ -15,7 +15,7 @@ use std::marker::Model;
 /// each with all its bytes.
 #[derive(Debug, Drop)]
 pub struct Guest {
-    regions: Vec<FlatRegion>,
+    pub(crate) regions: Vec<FlatRegion>,
 }
 
 impl Model for Guest {
@@ -28,7 +28,7 @@ impl Model for Guest {
 }
 
 /// The index of the first region that has `n` bytes from the address `at` on and gives the right.
-fn place_of(regions: &[FlatRegion], right: Right, at: u32, n: usize) -> Option<usize>
+pub(crate) fn place_of(regions: &[FlatRegion], right: Right, at: u32, n: usize) -> Option<usize>
     requires { n < 2 ^ 63 }
     ensures { result ≡ position (λ region. contains region right at n) regions.now }
 {
@@ -38,7 +38,7 @@ fn place_of(regions: &[FlatRegion], right: Right, at: u32, n: usize) -> Option<u
 }
 
 /// `n` bytes from the address `at` on, where one region has them all and gives the right.
-fn part_in(regions: &[FlatRegion], right: Right, at: u32, n: usize) -> Option<&[u8]>
+pub(crate) fn part_in(regions: &[FlatRegion], right: Right, at: u32, n: usize) -> Option<&[u8]>
     requires { n < 2 ^ 63 }
     ensures bytes { MatchOption result (bytes_at regions.now right at n ≡ None) (λ bytes. bytes_at regions.now right at n ≡ Some bytes.now) }
     ensures length { IfSome result (λ bytes. length bytes.now ≡ n) }

@@ -6,7 +6,12 @@ mod fault;
 mod flat_region;
 mod guest;
 mod right;
+mod streams;
 
 pub use fault::{Fault, StoreNo};
 pub use guest::Guest;
 pub use right::Right;
+pub use streams::Filled;
+
+#[cfg(test)]
+mod stream_tests;

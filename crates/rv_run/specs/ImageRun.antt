@@ -1,5 +1,5 @@
 -- Runs: the machine's steps, one after another, what they take from the input and what they write.
-use Rattle.std.specs.Prelude.{◌≡◌, ℕ, zero, suc, ◌+◌, ◌≤◌, ◌⊎◌, List, [], ◌++◌, length, take, drop, Option, Some, None, Result, Ok, Err}
+use Rattle.std.specs.Prelude.{◌≡◌, ℕ, zero, suc, ◌+◌, ◌≤◌, List, [], ◌++◌, length, take, drop, Option, Some, None, Result, Ok, Err}
 use Rattle.fsc_outside.specs.Streams.{Appends, AppendsFront}
 use Rattle.rv_isa.specs.declared.inst.Inst.{Inst}
 use Rattle.rv_run.specs.declared.stop.TrapKind.{TrapKind}
@@ -7,8 +7,8 @@ use Rattle.rv_run.specs.declared.stop.Step.{Step}
 use Rattle.rv_run.specs.declared.stop.Step.TheVariants as step
 use Rattle.rv_run.specs.declared.stop.Stop.{Stop}
 use Rattle.rv_run.specs.declared.stop.Stop.TheVariants as stop
-use Rattle.guest_mem.specs.Guest.{with_bytes}
-use Rattle.rv_run.specs.Machine.{State, Action, Goes, Takes, Exits, Stops, Traps, row, action_of, value_of, counted}
+use Rattle.guest_mem.specs.Filling.{TakesUpTo, TakesFront}
+use Rattle.rv_run.specs.Machine.{State, Action, Goes, Takes, Exits, Stops, Traps, row, action_of, with_filled, counted}
 
 -- ---- whole runs
 
@@ -52,16 +52,6 @@ pub record Streams : Type 0 where
   pub left : Option (List ℕ)
   pub written : Option (List ℕ)
 
--- the bytes were taken: all that there are up to n, where the source tells
-abbrev pub TakesUpTo : (n : ℕ) (old new : Option (List ℕ)) (bytes : List ℕ) → Type 0
-TakesUpTo n None new bytes = length bytes ≤ n
-TakesUpTo n (Some left) new bytes = (bytes ≡ take n left) × (new ≡ Some (drop n left))
-
--- a front of what was left was taken, where the source tells
-abbrev pub TakesFront : (bytes : List ℕ) (old new : Option (List ℕ)) → Type 0
-TakesFront bytes None new = Unit {0}
-TakesFront bytes (Some left) new = (bytes ≡ take (length bytes) left) × (new ≡ Some (drop (length bytes) left))
-
 -- an instruction went on
 abbrev pub GoesOn : Action → (new : State) (before after : Streams) → Type 0
 GoesOn (Goes bytes t) new before after = (new ≡ t) × (after.left ≡ before.left) × Appends before.written after.written bytes
@@ -81,8 +71,8 @@ IsCutShort (Traps kind) before after = ⊥
 -- the source failed while an instruction took from it, and the buffer begins with what was taken
 abbrev pub IsReadCut : Action → (old new : State) (before after : Streams) → Type 0
 IsReadCut (Takes n t) old new before after =
-    (bytes : List ℕ) × (with_bytes old.memory (value_of old 11) bytes ≡ Some new.memory) × (new ≡ counted (record old { memory = new.memory }))
-      × TakesFront bytes before.left after.left × (length bytes ≤ n) × (after.written ≡ before.written)
+    (bytes : List ℕ) × (new ≡ counted (with_filled old bytes)) × TakesFront bytes before.left after.left × (length bytes ≤ n)
+      × (after.written ≡ before.written)
 IsReadCut (Goes bytes t) old new before after = ⊥
 IsReadCut (Exits status) old new before after = ⊥
 IsReadCut (Stops kind block offset width) old new before after = ⊥
@@ -123,9 +113,10 @@ StopsBy (Exits status) pc answer = ⊥
 
 -- ---- how the program carries out a whole run
 
--- The run is known where the source tells what it has left, or where it asks the source for nothing.
+-- The input that a run is given is what the source has left, where it tells; where it does not, the run asks it for nothing.
 abbrev pub IsKnown : (told : Option (List ℕ)) (given : List ℕ) (asked : ℕ) → Type 0
-IsKnown told given asked = (told ≡ Some given) ⊎ (asked ≡ 0)
+IsKnown None given asked = asked ≡ 0
+IsKnown (Some left) given asked = left ≡ given
 
 -- what is left of the input, where the source tells
 abbrev pub LeavesInput : (before after : Option (List ℕ)) (left : List ℕ) → Type 0

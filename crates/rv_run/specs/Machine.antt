@@ -4,7 +4,8 @@ use Rattle.std.specs.Prelude.{◌≡◌, ℕ, ◌+◌, ◌-◌, ◌*◌, ◌/◌
 use Rattle.std.specs.Int.{w32, cast_unsigned}
 use Rattle.fsc_base.specs.declared.image.Image.{Image}
 use Rattle.guest_mem.specs.Regions.{Region}
-use Rattle.guest_mem.specs.Guest.{memory_of, bytes_at, with_bytes, covers, loaded, stored, fetched}
+use Rattle.guest_mem.specs.Guest.{memory_of, bytes_at, covers, loaded, stored, fetched}
+use Rattle.guest_mem.specs.Filling.{with_front}
 use Rattle.guest_mem.specs.declared.fault.Fault.{Fault}
 use Rattle.guest_mem.specs.declared.fault.Fault.TheVariants as fault
 use Rattle.guest_mem.specs.declared.right.Right.TheVariants.{Read, Write}
@@ -148,9 +149,11 @@ stores width rs1 imm value s = put s (stored width s.memory (sum_of s rs1 imm) v
 -- ---- environment calls, by the number in x17
 
 -- 63: fills x12 bytes at x11 from stream 0, until they are full or the input ends; x10 becomes their number
+abbrev pub with_filled : State → List ℕ → State
+with_filled s bytes = record s { memory = unwrap_or (with_front s.memory (value_of s 11) (value_of s 12) bytes) s.memory }
+
 abbrev pub filled : State → List ℕ → State
-filled s bytes =
-    next (with_register (record s { memory = unwrap_or (with_bytes s.memory (value_of s 11) bytes) s.memory }) 10 (length bytes))
+filled s bytes = next (with_register (with_filled s bytes) 10 (length bytes))
 
 abbrev pub read_call : State → Action
 read_call s =

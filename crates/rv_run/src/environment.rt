@@ -1,6 +1,6 @@
 //! Environment calls, by the number in x17: 63 reads, 64 writes, 93 exits and 4000 stops.
 
-ghost use Rattle.std.specs.Prelude.{◌≡◌, ◌+◌, ◌%◌, ◌^◌, ◌<◌, ◌≤◌};
+ghost use Rattle.std.specs.Prelude.{◌≡◌, ◌≢◌, ◌+◌, ◌%◌, ◌^◌, ◌<◌, ◌≤◌, List, Option};
 ghost use Rattle.fsc_outside.specs.Counts.{Rose};
 ghost use Rattle.rv_run.specs.Machine.{value_of, with_register, counted, next, read_call, write_call, stop_call, ecall};
 ghost use Rattle.rv_run.specs.ImageRun.{StopsBy, Performs};
@@ -8,7 +8,7 @@ ghost use Rattle.rv_run.specs.ImageRun.{StopsBy, Performs};
 use crate::machine::Machine;
 use crate::stop::{Step, Stop, TrapKind};
 use fsc_outside::{Sink, Source, Wrote};
-use guest_mem::Right;
+use guest_mem::{Filled, Right};
 use rv_isa::Reg;
 
 /// The number of the call that reads.
@@ -44,9 +44,58 @@ impl Machine {
         ensures write_counted { O.fault_count out.old ≤ O.fault_count out.new }
     {
         match self.registers[17] {
+            READ => self.read_call(input),
+            WRITE => self.write_call(out),
             EXIT => self.exit_call(),
             STOP => self.stop_call(),
             _ => self.trap(TrapKind::Call),
+        }
+    }
+
+    /// Fills the x12 bytes at x11 from stream 0, until they are full or the input ends.
+    fn read_call<S: Source>(&mut self, input: &mut S) -> Step
+        requires { self.old.count + 1 < 2 ^ 64 }
+        ensures row { (written : Option (List ℕ)) → Performs (read_call self.old) result self.old self.new
+            (record { left = S.left input.old; written = written }) (record { left = S.left input.new; written = written }) }
+        ensures failed { result ≡ Step.Ended Stop.ReadFault → Rose (S.fault_count input.old) (S.fault_count input.new) }
+        ensures reads { result ≢ Step.Ended Stop.WriteFault }
+        ensures counted { S.fault_count input.old ≤ S.fault_count input.new }
+    {
+        let at = self.registers[11];
+        let length = self.registers[12];
+        if self.registers[10] != INPUT {
+            return self.trap(TrapKind::Call);
+        }
+        if !self.memory.covers(Right::Write, at, length) {
+            return self.trap(TrapKind::Store);
+        }
+        match self.memory.fill_from(at, length, input) {
+            Filled::Read(taken) => self.moved(taken),
+            Filled::Failed(_) => self.end(Stop::ReadFault),
+        }
+    }
+
+    /// Writes the x12 bytes at x11 to stream 1.
+    fn write_call<O: Sink>(&mut self, out: &mut O) -> Step
+        requires { self.old.count + 1 < 2 ^ 64 }
+        ensures row { (left : Option (List ℕ)) → Performs (write_call self.old) result self.old self.new
+            (record { left = left; written = O.written out.old }) (record { left = left; written = O.written out.new }) }
+        ensures failed { result ≡ Step.Ended Stop.WriteFault → Rose (O.fault_count out.old) (O.fault_count out.new) }
+        ensures writes { result ≢ Step.Ended Stop.ReadFault }
+        ensures counted { O.fault_count out.old ≤ O.fault_count out.new }
+    {
+        let at = self.registers[11];
+        let length = self.registers[12];
+        if self.registers[10] != OUTPUT {
+            return self.trap(TrapKind::Call);
+        }
+        if !self.memory.covers(Right::Read, at, length) {
+            return self.trap(TrapKind::Load);
+        }
+        match self.memory.write_to(at, length, out) {
+            Wrote::Whole => self.moved(length),
+            Wrote::Failed => self.end(Stop::WriteFault),
+            Wrote::NoMemory => self.end(Stop::NoMemory),
         }
     }
 
