@@ -167,3 +167,20 @@ ends whole m s new before now after given stop.WriteFault known so_far then = cu
 ends whole m s new before now after given stop.NoMemory known so_far then = cut_short whole m s before now after given (action_of s) refl so_far then.0
 ends whole m s new before now after given stop.ReadFault known so_far then = read_cut whole m s new before now after given (action_of s) so_far then
 ends whole m s new before now after given stop.Steps known so_far then = absurd then
+
+-- one instruction of those that are left
+pub next_of : (whole : ImageRun) (n i : ℕ) (s : State) (before now : Streams) (given : List ℕ) → i < n
+    → SoFar whole (n - i) s before now given → SoFar whole (suc (n - (i + 1))) s before now given
+next_of whole n i s before now given lt so_far =
+    let k : n - i ≡ suc (n - (i + 1)) = omega arith in subst (λ (j : ℕ). SoFar whole j s before now given) k so_far
+
+-- all of them, and none
+pub all_of : (n : ℕ) (s : State) (before : Streams) (given : List ℕ) → SoFar (image_run n s given) (n - 0) s before before given
+all_of n s before given =
+    let k : n ≡ n - 0 = omega arith in subst (λ (j : ℕ). SoFar (image_run n s given) j s before before given) k (begins n s before given)
+
+pub none_of : (whole : ImageRun) (n i : ℕ) (s : State) (before now : Streams) (given : List ℕ) → n ≤ i
+    → IsKnown before.left given whole.asked → SoFar whole (n - i) s before now given → RunsWhole whole stop.Steps s before now
+none_of whole n i s before now given le known so_far =
+    let k : n - i ≡ 0 = omega arith in
+    is_done whole s before now given known (subst (λ (j : ℕ). SoFar whole j s before now given) k so_far)

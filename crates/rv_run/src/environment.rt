@@ -1,6 +1,6 @@
 //! Environment calls, by the number in x17: 63 reads, 64 writes, 93 exits and 4000 stops.
 
-ghost use Rattle.std.specs.Prelude.{◌≡◌, ◌≢◌, ◌+◌, ◌%◌, ◌^◌, ◌<◌, ◌≤◌, List, Option};
+ghost use Rattle.std.specs.Prelude.{◌≡◌, ◌≢◌, ◌+◌, ◌%◌, ◌^◌, ◌<◌, ◌≤◌, ℕ, List, Option};
 ghost use Rattle.fsc_outside.specs.Counts.{Rose};
 ghost use Rattle.rv_run.specs.Machine.{value_of, with_register, counted, next, read_call, write_call, stop_call, ecall};
 ghost use Rattle.rv_run.specs.ImageRun.{StopsBy, Performs};
@@ -66,7 +66,7 @@ impl Machine {
         if self.registers[10] != INPUT {
             return self.trap(TrapKind::Call);
         }
-        if !self.memory.covers(Right::Write, at, length) {
+        if !self.memory.covers(at, length, Right::Write) {
             return self.trap(TrapKind::Store);
         }
         match self.memory.fill_from(at, length, input) {
@@ -89,7 +89,7 @@ impl Machine {
         if self.registers[10] != OUTPUT {
             return self.trap(TrapKind::Call);
         }
-        if !self.memory.covers(Right::Read, at, length) {
+        if !self.memory.covers(at, length, Right::Read) {
             return self.trap(TrapKind::Load);
         }
         match self.memory.write_to(at, length, out) {

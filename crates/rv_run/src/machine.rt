@@ -1,14 +1,16 @@
 //! The machine and its runs.
 
-ghost use Rattle.std.specs.Prelude.{◌≡◌, ◌+◌, ◌^◌, ◌<◌, IfOk, slice_index};
+ghost use Rattle.std.specs.Prelude.{◌≡◌, ℕ, ◌+◌, ◌^◌, ◌<◌, ◌≤◌, List, IfOk, slice_index};
+ghost use Rattle.fsc_outside.specs.Counts.{Rose};
 ghost use Rattle.fsc_base.specs.Image.{IsSound};
 ghost use Rattle.guest_mem.specs.Guest.{loaded};
-ghost use Rattle.rv_run.specs.Machine.{start_of, counted, WordIs};
+ghost use Rattle.rv_run.specs.Machine.{start_of, action_of, row, counted, WordIs};
 ghost use Rattle.rv_isa.specs.Encoding.{IsValid};
-ghost use Rattle.rv_run.specs.ImageRun.{FindsRow};
+ghost use Rattle.rv_run.specs.ImageRun.{FindsRow, Performs, Runs, IsKnown, image_run};
 
 use crate::stop::{Step, Stop, TrapKind};
 use fsc_base::{Image, NoMemory};
+use fsc_outside::{Sink, Source};
 use guest_mem::{Fault, Guest};
 use rv_isa::{Inst, Reg, decode};
 use std::alloc::Global;
@@ -120,5 +122,63 @@ impl Machine {
     {
         self.count += 1;
         Step::Ended(stop)
+    }
+
+    /// Runs one instruction by its row. But for bytes that a failed read left, an instruction that ends the run leaves
+    /// registers, pc and memory as they were.
+    pub fn step<S: Source, O: Sink>(&mut self, input: &mut S, out: &mut O) -> Step
+        requires { self.old.count + 1 < 2 ^ 64 }
+        ensures row { Performs (action_of self.old) result self.old self.new
+            (record { left = S.left input.old; written = O.written out.old }) (record { left = S.left input.new; written = O.written out.new }) }
+        ensures read_failed { result ≡ Step.Ended Stop.ReadFault → Rose (S.fault_count input.old) (S.fault_count input.new) }
+        ensures write_failed { result ≡ Step.Ended Stop.WriteFault → Rose (O.fault_count out.old) (O.fault_count out.new) }
+        ensures read_counted { S.fault_count input.old ≤ S.fault_count input.new }
+        ensures write_counted { O.fault_count out.old ≤ O.fault_count out.new }
+    {
+        match self.instruction() {
+            Ok(inst) => self.perform(inst, input, out),
+            Err(kind) => self.trap(kind),
+        }
+    }
+
+    /// Runs one instruction by its row, wherever it stands.
+    #[tactic(auto, unfolding(crate::specs::Machine::row), using(fsc_outside::proofs::Appending::appends_nothing))]
+    fn perform<S: Source, O: Sink>(&mut self, inst: Inst, input: &mut S, out: &mut O) -> Step
+        requires valid { IsValid inst }
+        requires counts { self.old.count + 1 < 2 ^ 64 }
+        ensures row { Performs (row inst self.old) result self.old self.new
+            (record { left = S.left input.old; written = O.written out.old }) (record { left = S.left input.new; written = O.written out.new }) }
+        ensures read_failed { result ≡ Step.Ended Stop.ReadFault → Rose (S.fault_count input.old) (S.fault_count input.new) }
+        ensures write_failed { result ≡ Step.Ended Stop.WriteFault → Rose (O.fault_count out.old) (O.fault_count out.new) }
+        ensures read_counted { S.fault_count input.old ≤ S.fault_count input.new }
+        ensures write_counted { O.fault_count out.old ≤ O.fault_count out.new }
+    {
+        if inst == Inst::Ecall {
+            return self.ecall(input, out);
+        }
+        match self.follow(inst) {
+            Ok(()) => Step::Next,
+            Err(kind) => self.trap(kind),
+        }
+    }
+
+    /// Runs instructions, at most `n` of them, until one ends the run. The input that the run is given is what the
+    /// source has left, where it tells; where it does not, any will do that the run asks nothing of.
+    pub fn run<S: Source, O: Sink>(&mut self, n: u64, input: &mut S, out: &mut O) -> Stop
+        requires { self.old.count + n < 2 ^ 64 }
+        ensures run { (given : List ℕ) → IsKnown (S.left input.old) given (image_run n self.old given).asked → Runs (image_run n self.old given) result self.new
+            (record { left = S.left input.old; written = O.written out.old }) (record { left = S.left input.new; written = O.written out.new }) }
+        ensures read_failed { result ≡ Stop.ReadFault → Rose (S.fault_count input.old) (S.fault_count input.new) }
+        ensures write_failed { result ≡ Stop.WriteFault → Rose (O.fault_count out.old) (O.fault_count out.new) }
+        ensures read_counted { S.fault_count input.old ≤ S.fault_count input.new }
+        ensures write_counted { O.fault_count out.old ≤ O.fault_count out.new }
+    {
+        for _ in 0..n {
+            match self.step(input, out) {
+                Step::Next => {}
+                Step::Ended(stop) => return stop,
+            }
+        }
+        Stop::Steps
     }
 }
