@@ -87,10 +87,10 @@ over_front_of target old taken within behind = rw (length-take-le taken target w
 
 -- ---- memory
 
-length-over_front : (bytes all : List ℕ) → length bytes ≤ length all → length (over_front bytes all) ≡ length all
+pub length-over_front : (bytes all : List ℕ) → length bytes ≤ length all → length (over_front bytes all) ≡ length all
 length-over_front bytes all few = length-append bytes (drop (length bytes) all) ∙ omega (arith, length-drop (length bytes) all)
 
-length-part : (region : Region) (at n : ℕ) → Within region at n → length (part region at n) ≡ n
+pub length-part : (region : Region) (at n : ℕ) → Within region at n → length (part region at n) ≡ n
 length-part region at n within = length-take-le n (drop (at - region.address) region.bytes) (omega (arith, length-drop (at - region.address) region.bytes, within.0, within.1))
 
 -- a part of a list of bytes, as long as `n`, where other bytes stand now
@@ -117,7 +117,7 @@ fills_region region at n size all target answer before after within same long fi
     )
 
 -- the first region that has the n bytes and may be written begins with the bytes there now
-with_front-place : (regions : List Region) (at n place : ℕ) (bytes : List ℕ) (d : Region) → position (serves Write at n) regions ≡ Some place → length bytes ≤ n
+pub with_front-place : (regions : List Region) (at n place : ℕ) (bytes : List ℕ) (d : Region) → position (serves Write at n) regions ≡ Some place → length bytes ≤ n
     → with_front regions at n bytes ≡ Some (set regions place (with_part (get_or regions place d) at (over_front bytes (part (get_or regions place d) at n))))
 with_front-place regions at n place bytes d is few =
     let region = get_or regions place d in
@@ -152,11 +152,11 @@ fills_nothing regions at n told none covered =
 
 -- ---- what the word says in the plain cases
 
-nowhere : Region
+pub nowhere : Region
 nowhere = record { address = 0; flags = 0; bytes = [] }
 
 -- whatever is the same for each region that has the bytes, and without any bytes, is the same
-by_place : (regions : List Region) (at n : ℕ) (left right : Option (List Region)) → IsTrue (covers regions Write at n)
+pub by_place : (regions : List Region) (at n : ℕ) (left right : Option (List Region)) → IsTrue (covers regions Write at n)
     → ((place : ℕ) → position (serves Write at n) regions ≡ Some place → left ≡ right) → (n ≡ 0 → left ≡ right) → left ≡ right
 by_place regions at n left right covered some none =
     elim (position (serves Write at n) regions) as (λ found. position (serves Write at n) regions ≡ found → left ≡ right) [

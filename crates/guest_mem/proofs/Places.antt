@@ -16,7 +16,7 @@ use Rattle.guest_mem.specs.Guest.{contains, overwritten, part, with_part, bytes_
 abbrev pub serves : Right → (at n : ℕ) → Region → Bool
 serves right at n region = contains region right at n
 
-abbrev IsFirst : (p : Region → Bool) (regions : List Region) (i : ℕ) (d : Region) → Type 0
+abbrev pub IsFirst : (p : Region → Bool) (regions : List Region) (i : ℕ) (d : Region) → Type 0
 IsFirst p regions i d = (i < length regions) × (p (get_or regions i d) ≡ true) × ((k : ℕ) → k < i → p (get_or regions k d) ≡ false)
 
 no_place : (k n : ℕ) → cond (ltb k n) (Some k) None ≡ None → n ≤ k

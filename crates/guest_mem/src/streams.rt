@@ -1,6 +1,6 @@
 //! Bytes that move between memory and the streams outside.
 
-ghost use Rattle.std.specs.Prelude.{◌≡◌, ℕ, ◌+◌, ◌^◌, ◌<◌, ◌≤◌, List, Option, Some, length, take, drop, IsTrue};
+ghost use Rattle.std.specs.Prelude.{◌≡◌, ℕ, ◌+◌, ◌^◌, ◌<◌, ◌≤◌, List, Some, length, IsTrue};
 ghost use Rattle.fsc_outside.specs.Counts.{Rose};
 ghost use Rattle.fsc_outside.specs.Streams.{Appends, AppendsFront};
 ghost use Rattle.guest_mem.specs.Filling.{Fills, FillsRegion, FillsSlice};
@@ -28,6 +28,7 @@ fn fill<S: Source>(target: &mut [u8], input: &mut S) -> Filled
     ensures fills { FillsSlice result target.old target.new (S.left input.old) (S.left input.new) }
     ensures failed { (count : ℕ) → result ≡ Filled.Failed count → Rose (S.fault_count input.old) (S.fault_count input.new) }
     ensures counted { S.fault_count input.old ≤ S.fault_count input.new }
+    ensures untouched { length target.old ≡ 0 → input.new ≡ input.old }
 {
     let mut buffer = [0; 256];
     let mut taken = 0;
@@ -53,6 +54,7 @@ impl FlatRegion {
         ensures fills { FillsRegion result self.old self.new at n (S.left input.old) (S.left input.new) }
         ensures failed { (count : ℕ) → result ≡ Filled.Failed count → Rose (S.fault_count input.old) (S.fault_count input.new) }
         ensures counted { S.fault_count input.old ≤ S.fault_count input.new }
+        ensures untouched { n ≡ 0 → input.new ≡ input.old }
     {
         let start = (at - self.address) as usize;
         fill(
@@ -68,6 +70,7 @@ fn fill_in<S: Source>(regions: &mut [FlatRegion], at: u32, n: u32, input: &mut S
     ensures fills { Fills result regions.old regions.new at n (S.left input.old) (S.left input.new) }
     ensures failed { (count : ℕ) → result ≡ Filled.Failed count → Rose (S.fault_count input.old) (S.fault_count input.new) }
     ensures counted { S.fault_count input.old ≤ S.fault_count input.new }
+    ensures untouched { n ≡ 0 → input.new ≡ input.old }
 {
     let Some(place) = place_of(regions, Right::Write, at, n as usize) else {
         return Filled::Read(0);
@@ -99,6 +102,7 @@ impl Guest {
         ensures fills { Fills result self.old self.new at n (S.left input.old) (S.left input.new) }
         ensures failed { (count : ℕ) → result ≡ Filled.Failed count → Rose (S.fault_count input.old) (S.fault_count input.new) }
         ensures counted { S.fault_count input.old ≤ S.fault_count input.new }
+        ensures untouched { n ≡ 0 → input.new ≡ input.old }
     {
         fill_in(self.regions.as_mut_slice(), at, n, input)
     }

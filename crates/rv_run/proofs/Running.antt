@@ -8,7 +8,7 @@ use Rattle.rv_run.specs.declared.stop.Stop.{Stop}
 use Rattle.rv_run.specs.declared.stop.Stop.TheVariants as stop
 use Rattle.guest_mem.specs.Filling.{TakesUpTo, TakesFront}
 use Rattle.rv_run.specs.Machine.{State, Action, Goes, Takes, Exits, Stops, Traps, action_of, counted}
-use Rattle.rv_run.specs.ImageRun.{ImageRun, Streams, writing_first, asking_first, ending, beginning, image_run, GoesOn, IsCutShort, IsReadCut, EndsBy, Performs, IsKnown, LeavesInput, RunsWhole, Runs}
+use Rattle.rv_run.specs.ImageRun.{ImageRun, Streams, writing_first, asking_first, ending, beginning, image_run, GoesOn, IsCutShort, IsReadCut, EndsBy, Performs, TakesNothing, IsKnown, LeavesInput, RunsWhole, Runs}
 
 -- what a run has done so far: the whole is what it wrote and asked for, and then the run from here on what is left
 pub record SoFar (whole : ImageRun) (steps : ℕ) (s : State) (before now : Streams) (given : List ℕ) : Type 0 where
@@ -45,7 +45,7 @@ takes_nothing None new bytes took = nil_from_length bytes (omega arith)
 takes_nothing (Some left) new bytes took = took.0
 
 -- a run that is known is told of, or asks for nothing
-told_or_unasked : (told : Option (List ℕ)) (given : List ℕ) (asked : ℕ) → IsKnown told given asked → (told ≡ Some given) ⊎ (asked ≡ 0)
+pub told_or_unasked : (told : Option (List ℕ)) (given : List ℕ) (asked : ℕ) → IsKnown told given asked → (told ≡ Some given) ⊎ (asked ≡ 0)
 told_or_unasked None given asked known = inr known
 told_or_unasked (Some left) given asked known = inl (ap (λ (l : List ℕ). Some l) known)
 
@@ -100,9 +100,9 @@ steps_on whole m s t before now after given (Stops kind block offset width) is k
 steps_on whole m s t before now after given (Traps kind) is known so_far went = absurd went
 
 pub goes_on : (whole : ImageRun) (m : ℕ) (s t : State) (before now after : Streams) (given : List ℕ)
-    → IsKnown before.left given whole.asked → SoFar whole (suc m) s before now given → GoesOn (action_of s) t now after → SoFar whole m t before after given
+    → (before.left ≡ Some given) ⊎ (whole.asked ≡ 0) → SoFar whole (suc m) s before now given → GoesOn (action_of s) t now after → SoFar whole m t before after given
 goes_on whole m s t before now after given known so_far went =
-    steps_on whole m s t before now after given (action_of s) refl (told_or_unasked before.left given whole.asked known) so_far went
+    steps_on whole m s t before now after given (action_of s) refl known so_far went
 
 -- what is left at the end
 leaves : (told after : Option (List ℕ)) (given rest : List ℕ) (asked : ℕ) → IsKnown told given asked → (told ≡ Some given → after ≡ Some rest) → LeavesInput told after rest
@@ -184,3 +184,21 @@ pub none_of : (whole : ImageRun) (n i : ℕ) (s : State) (before now : Streams) 
 none_of whole n i s before now given le known so_far =
     let k : n - i ≡ 0 = omega arith in
     is_done whole s before now given known (subst (λ (j : ℕ). SoFar whole j s before now given) k so_far)
+
+-- a run that asks for nothing goes by instructions that take nothing
+asks_nothing : (whole : ImageRun) (m : ℕ) (s : State) (before now : Streams) (given : List ℕ) (action : Action) → action_of s ≡ action
+    → SoFar whole (suc m) s before now given → whole.asked ≡ 0 → TakesNothing action
+unfolding image_run
+asks_nothing whole m s before now given (Takes k f) is so_far unasked =
+    let rest = so_far.rest in
+    let one : image_run (suc m) s rest ≡ asking_first k (image_run m (f (take k rest)) (drop k rest)) = rw is refl in
+    let all : whole.asked ≡ so_far.asked + (k + (image_run m (f (take k rest)) (drop k rest)).asked) = ap (λ (r : ImageRun). r.asked) (so_far.run ∙ ap (λ (r : ImageRun). asking_first so_far.asked (writing_first so_far.front r)) one) in
+    omega arith
+asks_nothing whole m s before now given (Goes bytes t) is so_far unasked = tt
+asks_nothing whole m s before now given (Exits status) is so_far unasked = tt
+asks_nothing whole m s before now given (Stops kind block offset width) is so_far unasked = tt
+asks_nothing whole m s before now given (Traps kind) is so_far unasked = tt
+
+pub takes_none : (whole : ImageRun) (m : ℕ) (s : State) (before now : Streams) (given : List ℕ)
+    → SoFar whole (suc m) s before now given → whole.asked ≡ 0 → TakesNothing (action_of s)
+takes_none whole m s before now given so_far unasked = asks_nothing whole m s before now given (action_of s) refl so_far unasked

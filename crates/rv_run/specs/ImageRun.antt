@@ -60,6 +60,14 @@ GoesOn (Exits status) new before after = ⊥
 GoesOn (Stops kind block offset width) new before after = ⊥
 GoesOn (Traps kind) new before after = ⊥
 
+-- an instruction takes nothing from the input
+abbrev pub TakesNothing : Action → Type 0
+TakesNothing (Takes n t) = n ≡ 0
+TakesNothing (Goes bytes t) = Unit {0}
+TakesNothing (Exits status) = Unit {0}
+TakesNothing (Stops kind block offset width) = Unit {0}
+TakesNothing (Traps kind) = Unit {0}
+
 -- the sink refused what an instruction writes, after a front of it
 abbrev pub IsCutShort : Action → (before after : Streams) → Type 0
 IsCutShort (Goes bytes t) before after = (after.left ≡ before.left) × AppendsFront before.written after.written bytes

@@ -3,7 +3,7 @@
 ghost use Rattle.std.specs.Prelude.{◌≡◌, ◌≢◌, ◌+◌, ◌%◌, ◌^◌, ◌<◌, ◌≤◌, ℕ, List, Option};
 ghost use Rattle.fsc_outside.specs.Counts.{Rose};
 ghost use Rattle.rv_run.specs.Machine.{value_of, with_register, counted, next, read_call, write_call, stop_call, ecall};
-ghost use Rattle.rv_run.specs.ImageRun.{StopsBy, Performs};
+ghost use Rattle.rv_run.specs.ImageRun.{StopsBy, Performs, TakesNothing};
 
 use crate::machine::Machine;
 use crate::stop::{Step, Stop, TrapKind};
@@ -42,6 +42,7 @@ impl Machine {
         ensures write_failed { result ≡ Step.Ended Stop.WriteFault → Rose (O.fault_count out.old) (O.fault_count out.new) }
         ensures read_counted { S.fault_count input.old ≤ S.fault_count input.new }
         ensures write_counted { O.fault_count out.old ≤ O.fault_count out.new }
+        ensures untouched { TakesNothing (ecall self.old) → input.new ≡ input.old }
     {
         match self.registers[17] {
             READ => self.read_call(input),
@@ -60,6 +61,7 @@ impl Machine {
         ensures failed { result ≡ Step.Ended Stop.ReadFault → Rose (S.fault_count input.old) (S.fault_count input.new) }
         ensures reads { result ≢ Step.Ended Stop.WriteFault }
         ensures counted { S.fault_count input.old ≤ S.fault_count input.new }
+        ensures untouched { TakesNothing (read_call self.old) → input.new ≡ input.old }
     {
         let at = self.registers[11];
         let length = self.registers[12];

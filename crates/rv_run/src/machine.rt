@@ -6,7 +6,7 @@ ghost use Rattle.fsc_base.specs.Image.{IsSound};
 ghost use Rattle.guest_mem.specs.Guest.{loaded};
 ghost use Rattle.rv_run.specs.Machine.{start_of, action_of, row, counted, WordIs};
 ghost use Rattle.rv_isa.specs.Encoding.{IsValid};
-ghost use Rattle.rv_run.specs.ImageRun.{FindsRow, Performs, Runs, IsKnown, image_run};
+ghost use Rattle.rv_run.specs.ImageRun.{FindsRow, Performs, Runs, TakesNothing, IsKnown, image_run};
 
 use crate::stop::{Step, Stop, TrapKind};
 use fsc_base::{Image, NoMemory};
@@ -134,6 +134,7 @@ impl Machine {
         ensures write_failed { result ≡ Step.Ended Stop.WriteFault → Rose (O.fault_count out.old) (O.fault_count out.new) }
         ensures read_counted { S.fault_count input.old ≤ S.fault_count input.new }
         ensures write_counted { O.fault_count out.old ≤ O.fault_count out.new }
+        ensures untouched { TakesNothing (action_of self.old) → input.new ≡ input.old }
     {
         match self.instruction() {
             Ok(inst) => self.perform(inst, input, out),
@@ -152,6 +153,7 @@ impl Machine {
         ensures write_failed { result ≡ Step.Ended Stop.WriteFault → Rose (O.fault_count out.old) (O.fault_count out.new) }
         ensures read_counted { S.fault_count input.old ≤ S.fault_count input.new }
         ensures write_counted { O.fault_count out.old ≤ O.fault_count out.new }
+        ensures untouched { TakesNothing (row inst self.old) → input.new ≡ input.old }
     {
         if inst == Inst::Ecall {
             return self.ecall(input, out);
@@ -172,6 +174,7 @@ impl Machine {
         ensures write_failed { result ≡ Stop.WriteFault → Rose (O.fault_count out.old) (O.fault_count out.new) }
         ensures read_counted { S.fault_count input.old ≤ S.fault_count input.new }
         ensures write_counted { O.fault_count out.old ≤ O.fault_count out.new }
+        ensures untouched { (given : List ℕ) → (image_run n self.old given).asked ≡ 0 → input.new ≡ input.old }
     {
         for _ in 0..n {
             match self.step(input, out) {

@@ -20,6 +20,7 @@ loop-taken-preserved g c =
       behind = behind_more _ _ _ _ _ n _ copies before.behind;
       front = front_more _ _ _ _ _ _ _ n _ copies before.front c.in-Moved.ensures.taken;
       counted = omega (arith, c.in-Moved.ensures.counted);
+      untouched = λ none. grind (arith, common_steps);
     }
 
 pub returns-in-End-clause-fills : goal.returns-in-End-clause-fills

@@ -9,6 +9,7 @@ invariant-loop-taken g l = record {
   behind : drop l.taken l.target ≡ drop l.taken l.initial.target;
   front : Takes (g.S.Source.left l.initial.input) (g.S.Source.left l.input) (take l.taken l.target);
   counted : g.S.Source.fault_count l.initial.input ≤ g.S.Source.fault_count l.input;
+  untouched : length l.target ≡ 0 → l.input ≡ l.initial.input;
 }
 
 abbrev pub decreases-loop-taken : goal.decreases-loop-taken
