@@ -1,1 +1,6 @@
+mod Parts
 mod Places
+pub mod Changes
+pub mod Layouts
+pub mod LittleEndian
+pub mod Accesses

@@ -1,3 +1,4 @@
 pub mod Guest
+pub mod Layout
 pub mod Regions
 pub mod Rights
