@@ -29,7 +29,7 @@ fetched-from regions at bytes aligned h = number_at-from 4 regions Execute at by
 pub stored-from : (width : ℕ) (regions : List Region) (at value : ℕ) (new : List Region) → at % width ≡ 0
     → with_bytes regions at (little_endian_bytes width value) ≡ Some new → stored width regions at value ≡ Ok new
 unfolding stored
-stored-from width regions at value new aligned h = rw (length-little_endian_bytes width value, aligned, h) refl
+stored-from width regions at value new aligned h = rw (aligned, h) refl
 
 -- an access that is not refused, by what it gave
 in_bytes : (found : Option (List ℕ)) (value : ℕ) → number_in found ≡ Ok value → (bytes : List ℕ) × (found ≡ Some bytes) × (value ≡ little_endian bytes)
@@ -62,9 +62,8 @@ pub stored-Ok : (width : ℕ) (regions : List Region) (at value : ℕ) (new : Li
     → (at % width ≡ 0) × (with_bytes regions at (little_endian_bytes width value) ≡ Some new)
 unfolding stored
 stored-Ok width regions at value new h =
-    let same = length-little_endian_bytes width value in
-    elim (cases_Bool (eqb (at % length (little_endian_bytes width value)) 0)) [
-      | inl aligned ↦ (rw same at (eqb-true (at % length (little_endian_bytes width value)) 0 aligned), in_memory (with_bytes regions at (little_endian_bytes width value)) new (rw aligned at h))
+    elim (cases_Bool (eqb (at % width) 0)) [
+      | inl aligned ↦ (eqb-true (at % width) 0 aligned, in_memory (with_bytes regions at (little_endian_bytes width value)) new (rw aligned at h))
       | inr odd ↦ absurd (let e : ◌≡◌ {A = Result (List Region) Fault} (Err fault.Misaligned) (Ok new) = rw odd at h in cc)
     ]
 

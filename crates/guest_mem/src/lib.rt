@@ -10,3 +10,6 @@ mod right;
 pub use fault::{Fault, StoreNo};
 pub use guest::Guest;
 pub use right::Right;
+
+#[cfg(test)]
+mod tests;
