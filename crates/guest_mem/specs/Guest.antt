@@ -82,14 +82,14 @@ abbrev pub memory_in : Option (List Region) → Result (List Region) Fault
 memory_in None = Err fault.Outside
 memory_in (Some regions) = Ok regions
 
--- what a store of these bytes leaves
-abbrev pub stored_bytes : List Region → (at : ℕ) → List ℕ → Result (List Region) Fault
-stored_bytes regions at bytes =
-    if at % length bytes == 0 then memory_in (with_bytes regions at bytes) else Err fault.Misaligned
+-- what a store of these bytes leaves, at this width
+abbrev pub stored_bytes : (width : ℕ) → List Region → (at : ℕ) → List ℕ → Result (List Region) Fault
+stored_bytes width regions at bytes =
+    if at % width == 0 then memory_in (with_bytes regions at bytes) else Err fault.Misaligned
 
 -- what a store of this many bytes leaves, the lowest of a value
 unfoldable pub stored : (width : ℕ) → List Region → (at value : ℕ) → Result (List Region) Fault
-stored width regions at value = stored_bytes regions at (little_endian_bytes width value)
+stored width regions at value = stored_bytes width regions at (little_endian_bytes width value)
 
 -- How a store goes: it leaves what it is to leave, or it is refused and leaves memory as it was.
 abbrev pub Stores : Result (List Region) Fault → (old new : List Region) → Result (Unit {0}) StoreNo → Type 0

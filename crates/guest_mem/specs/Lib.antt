@@ -1,4 +1,5 @@
 pub mod Filling
 pub mod Guest
+pub mod Layout
 pub mod Regions
 pub mod Rights

@@ -181,7 +181,7 @@ impl Guest {
     fn store(&mut self, at: u32, bytes: &[u8]) -> Result<(), StoreNo>
         requires some { 0 < length bytes.now }
         requires few { length bytes.now ≤ 4 }
-        ensures stores { Stores (stored_bytes self.old at bytes.now) self.old self.new result }
+        ensures stores { Stores (stored_bytes (length bytes.now) self.old at bytes.now) self.old self.new result }
         ensures ample { result ≢ Err StoreNo.NoMemory }
     {
         if at % bytes.len() as u32 != 0 {

@@ -15,3 +15,5 @@ pub use streams::Filled;
 
 #[cfg(test)]
 mod stream_tests;
+#[cfg(test)]
+mod tests;

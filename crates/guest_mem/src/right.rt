@@ -16,7 +16,7 @@ pub enum Right {
 
 impl Right {
     /// What the right adds to the flags of a segment, as in ELF: 1, 2 or 4.
-    pub fn flag(self) -> u32
+    pub(crate) fn flag(self) -> u32
         ensures { result ≡ flag_of self }
     {
         match self {
