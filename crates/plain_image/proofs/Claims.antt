@@ -5,39 +5,45 @@ use Rattle.rv_run.specs.declared.stop.Stop.TheVariants.{Exit, Steps}
 use Rattle.rv_run.specs.Machine.{State, Goes, Exits, goes, action_of}
 use Rattle.rv_run.specs.ImageRun.{ImageRun, image_run}
 
--- The run of n instructions writes these bytes and exits with this status; `lead` instructions stand before the first
+-- The run of n instructions over an input writes these bytes and exits with this status; `lead` instructions stand before the first
 -- byte.
-pub record Claims (bytes : List ℕ) (status lead n : ℕ) (run : ImageRun) : Type 0 where
+pub record Claims (bytes : List ℕ) (status lead n : ℕ) (input : List ℕ) (run : ImageRun) : Type 0 where
   pub front : run.written ≡ take (length run.written) bytes
   pub ends : (run.stop ≡ Steps) ⊎ ((run.stop ≡ Exit status) × (run.written ≡ bytes))
   pub in_time : lead + 3 * length bytes + 3 ≤ n → run.stop ≢ Steps
   pub keeps_up : (j : ℕ) → j ≤ length bytes → lead + 3 * j ≤ n → j ≤ length run.written
+  pub asks : run.asked ≡ 0
+  pub keeps : run.left ≡ input
 
--- at every bound
+-- at every bound, over every input
 abbrev pub ClaimsFrom : (bytes : List ℕ) (status lead : ℕ) → State → Type 0
-ClaimsFrom bytes status lead s = (n : ℕ) → Claims bytes status lead n (image_run n s)
+ClaimsFrom bytes status lead s = (n : ℕ) (input : List ℕ) → Claims bytes status lead n input (image_run n s input)
 
 -- before the first instruction
-nothing_yet : (bytes : List ℕ) (status lead : ℕ) (s : State) → Claims bytes status lead 0 (image_run 0 s)
+nothing_yet : (bytes : List ℕ) (status lead : ℕ) (s : State) (input : List ℕ) → Claims bytes status lead 0 input (image_run 0 s input)
 unfolding image_run
-nothing_yet bytes status lead s = record {
+nothing_yet bytes status lead s input = record {
   front = refl;
   ends = inl refl;
   in_time = λ h. absurd (omega arith);
   keeps_up = λ j within h. omega arith;
+  asks = refl;
+  keeps = refl;
 }
 
 -- an instruction that writes nothing
 pub quietly : (bytes : List ℕ) (status lead : ℕ) (s t : State) → action_of s ≡ goes t → ClaimsFrom bytes status lead t → ClaimsFrom bytes status (lead + 1) s
 unfolding image_run
-quietly bytes status lead s t acts from zero = nothing_yet bytes status (lead + 1) s
-quietly bytes status lead s t acts from (suc n) =
-    let then = from n in
+quietly bytes status lead s t acts from zero input = nothing_yet bytes status (lead + 1) s input
+quietly bytes status lead s t acts from (suc n) input =
+    let then = from n input in
     rw acts (record {
       front = then.front;
       ends = then.ends;
       in_time = λ h. then.in_time (omega arith);
       keeps_up = λ j within h. then.keeps_up j within (omega arith);
+      asks = then.asks;
+      keeps = then.keeps;
     })
 
 still_written : (byte : ℕ) (bytes written : List ℕ) (stop said : Stop) → (stop ≡ Steps) ⊎ ((stop ≡ said) × (written ≡ bytes))
@@ -55,24 +61,28 @@ one_in_time byte bytes written lead n before (suc j) within h = omega (arith, be
 pub writing : (byte : ℕ) (bytes : List ℕ) (status lead : ℕ) (s t : State) → action_of s ≡ Goes (byte ∷ []) t
     → ClaimsFrom bytes status (lead + 2) t → ClaimsFrom (byte ∷ bytes) status lead s
 unfolding image_run
-writing byte bytes status lead s t acts from zero = nothing_yet (byte ∷ bytes) status lead s
-writing byte bytes status lead s t acts from (suc n) =
-    let then = from n in
-    let run = image_run n t in
+writing byte bytes status lead s t acts from zero input = nothing_yet (byte ∷ bytes) status lead s input
+writing byte bytes status lead s t acts from (suc n) input =
+    let then = from n input in
+    let run = image_run n t input in
     rw acts (record {
       front = ap (λ (bs : List ℕ). byte ∷ bs) then.front;
       ends = still_written byte bytes run.written run.stop (Exit status) then.ends;
       in_time = λ h. then.in_time (omega arith);
       keeps_up = one_in_time byte bytes run.written lead n then.keeps_up;
+      asks = then.asks;
+      keeps = then.keeps;
     })
 
 -- the exit
 pub exiting : (status : ℕ) (s : State) → action_of s ≡ Exits status → ClaimsFrom [] status 0 s
 unfolding image_run
-exiting status s acts zero = nothing_yet [] status 0 s
-exiting status s acts (suc n) = rw acts (record {
+exiting status s acts zero input = nothing_yet [] status 0 s input
+exiting status s acts (suc n) input = rw acts (record {
   front = refl;
   ends = inr (refl, refl);
   in_time = λ h e. cc;
   keeps_up = λ j within h. omega arith;
+  asks = refl;
+  keeps = refl;
 })

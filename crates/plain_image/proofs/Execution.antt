@@ -1,5 +1,5 @@
 -- What each instruction of the code does, where the code and the buffer are all of memory.
-use Rattle.std.proofs.Common.{◌≡◌, ℕ, ◌+◌, ◌*◌, ◌-◌, ◌%◌, ◌<◌, ◌≤◌, ◌^◌, true, false, eqb, leb, List, [], ◌∷◌, length, drop, Some, refl, ap, ◌∙◌, arith, lit<, rules}
+use Rattle.std.proofs.Common.{◌≡◌, ℕ, ◌+◌, ◌*◌, ◌-◌, ◌%◌, ◌<◌, ◌≤◌, ◌^◌, true, false, eqb, leb, List, [], ◌∷◌, length, drop, Some, Ok, refl, sym, ap, ◌∙◌, arith, lit<, rules}
 use Rattle.std.proofs.lemmas.Int.{ints}
 use Rattle.std.specs.Prelude.{pos, slice_index, slice_set}
 use Rattle.std.specs.Int.{w32, cast_unsigned, from_le_bytes}
@@ -10,9 +10,11 @@ use Rattle.rv_isa.specs.declared.inst.Inst.TheVariants.{Lui, Sb, Ecall}
 use Rattle.rv_isa.specs.Encoding.{IsValid, NamesRegisters, encoding}
 use Rattle.rv_isa.specs.Decoding.{decoded}
 use Rattle.rv_isa.proofs.Tables.{decoded-encoding, encoding-below}
-use Rattle.rv_run.specs.declared.memory.Region.{Region}
-use Rattle.rv_run.specs.declared.memory.Right.TheVariants.{Execute, Read}
-use Rattle.rv_run.specs.Memory.{covers, bytes_at, with_byte}
+use Rattle.guest_mem.specs.Regions.{Region}
+use Rattle.guest_mem.specs.declared.right.Right.TheVariants.{Execute, Read}
+use Rattle.guest_mem.specs.Guest.{contains, bytes_at, with_bytes, little_endian, fetched, stored}
+use Rattle.guest_mem.proofs.Accesses.{fetched-from, stored-from}
+use Rattle.guest_mem.proofs.LittleEndian.{little_endian_bytes-word, little_endian-little_endian_bytes}
 use Rattle.rv_run.specs.Machine.{State, Goes, Exits, goes, row, action_of}
 use Rattle.plain_image.specs.Code.{load, word_of, spelled}
 use Rattle.plain_image.proofs.Placement.{length-spelled, word_at, within}
@@ -49,21 +51,26 @@ fetches code rest k inst cell small stands =
     let long = length-spelled code in
     let begun : leb 0x10000 (0x10000 + 4 * k) ≡ true = le-leb _ _ (omega arith) in
     let held : leb (0x10000 + 4 * k + 4) (0x10000 + length (spelled code)) ≡ true = le-leb _ _ (omega arith) in
-    let covered : covers (code_region code) Execute (0x10000 + 4 * k) 4 ≡ true = rw (begun, held) refl in
+    let covered : contains (code_region code) Execute (0x10000 + 4 * k) 4 ≡ true = rw (begun, held) refl in
     let offset : (0x10000 + 4 * k) - 0x10000 ≡ 4 * k = omega arith in
     rw (covered, offset) (ap (λ (bytes : List ℕ). Some bytes) (word_at code rest k inst stands))
 
-reads : (inst : Inst) → IsValid inst → NamesRegisters inst → decoded (from_le_bytes w32 (word_of inst)) ≡ Some inst
+word_is : (inst : Inst) → IsValid inst → NamesRegisters inst → little_endian (word_of inst) ≡ encoding inst
 unfolding word_of
-reads inst valid registers = rw (from_le_bytes-to_le_bytes_4 (encoding inst) (encoding-below inst valid registers)) (decoded-encoding inst valid registers)
+word_is inst valid registers =
+    let below = encoding-below inst valid registers in
+    let whole : encoding inst % 256 ^ 4 ≡ encoding inst = omega arith in
+    ap little_endian (sym (little_endian_bytes-word (encoding inst))) ∙ little_endian-little_endian_bytes 4 (encoding inst) ∙ whole
 
 pub acts : (code rest : List Inst) (k : ℕ) (inst : Inst) (registers : List ℕ) (cell count : ℕ) → IsSmall code → Stands code k inst rest
     → IsValid inst → NamesRegisters inst
     → action_of (state code k registers cell count) ≡ row inst (state code k registers cell count)
 unfolding action_of
 acts code rest k inst registers cell count small stands valid names =
-    let aligned : eqb ((0x10000 + 4 * k) % 4) 0 ≡ true = eq-eqb _ _ (omega arith) in
-    rw (aligned, fetches code rest k inst cell small stands, reads inst valid names) refl
+    let memory = code_region code ∷ buffer_region cell ∷ [] in
+    let word : fetched memory (0x10000 + 4 * k) ≡ Ok (little_endian (word_of inst)) =
+        fetched-from memory (0x10000 + 4 * k) (word_of inst) (omega arith) (fetches code rest k inst cell small stands) in
+    rw (word, word_is inst valid names, decoded-encoding inst valid names) refl
 
 -- the pc of the next instruction
 following : (k : ℕ) → k < 2 ^ 20 → (0x10000 + 4 * k + 4) % 2 ^ 32 ≡ 0x10000 + 4 * (k + 1)
@@ -99,9 +106,11 @@ points code rest k registers cell count small stands =
     acts code rest k (Lui 11 (pos 32)) registers cell count small stands (search rules) (lit< tt) ∙ points_row code k registers cell count (omega arith)
 
 -- the buffer is given the byte in x5
-buffered : (code : List Inst) (cell byte : ℕ) → with_byte (code_region code ∷ buffer_region cell ∷ []) 0x20000 byte ≡ Some (code_region code ∷ buffer_region byte ∷ [])
-unfolding with_byte
-buffered code cell byte = refl
+buffered : (code : List Inst) (cell byte : ℕ) → byte < 2 ^ 8 → stored 1 (code_region code ∷ buffer_region cell ∷ []) 0x20000 byte ≡ Ok (code_region code ∷ buffer_region byte ∷ [])
+unfolding with_bytes
+buffered code cell byte fits =
+    let low : byte % 256 ≡ byte = omega arith in
+    stored-from 1 (code_region code ∷ buffer_region cell ∷ []) 0x20000 byte _ refl (rw low refl)
 
 stores_row : (code : List Inst) (k : ℕ) (registers : List ℕ) (byte cell count : ℕ) → k < 2 ^ 20
     → slice_index registers 11 ≡ 0x20000 → slice_index registers 5 ≡ byte → byte < 2 ^ 8
@@ -109,7 +118,7 @@ stores_row : (code : List Inst) (k : ℕ) (registers : List ℕ) (byte cell coun
 unfolding row
 stores_row code k registers byte cell count small at holds fits =
     let low : byte % 2 ^ 8 ≡ byte = omega arith in
-    rw (at, holds, low, buffered code cell byte, following k small) refl
+    rw (at, holds, low, buffered code cell byte fits, following k small) refl
 
 pub stores : (code rest : List Inst) (k : ℕ) (registers : List ℕ) (byte cell count : ℕ) → IsSmall code → Stands code k (Sb 11 5 (pos 0)) rest
     → slice_index registers 11 ≡ 0x20000 → slice_index registers 5 ≡ byte → byte < 2 ^ 8

@@ -93,16 +93,18 @@ starts bytes status =
 
 -- the image runs as it should, at every bound
 pub image_writes : (bytes : List ℕ) (status : ℕ) → length bytes ≤ 1000 → AreBytes bytes → status < 256
-    → (n : ℕ) → Writes bytes status n (image_run n (start_of (image_of bytes status)))
-image_writes bytes status few are_bytes fits n =
+    → (n : ℕ) (input : List ℕ) → Writes bytes status n input (image_run n (start_of (image_of bytes status)) input)
+image_writes bytes status few are_bytes fits n input =
     let code = code_of bytes status in
     let small : length code ≤ 4000 = omega (arith, length-code_of bytes status) in
-    let claims : Claims bytes status 6 n (image_run n (state code 0 zeros 0 0)) = program_claims code bytes status small are_bytes fits (code_is_whole bytes status) n in
+    let claims : Claims bytes status 6 n input (image_run n (state code 0 zeros 0 0) input) = program_claims code bytes status small are_bytes fits (code_is_whole bytes status) n input in
     rw (starts bytes status) (record {
       front = claims.front;
       ends = claims.ends;
       in_time = λ h. claims.in_time (omega arith);
       keeps_up = λ j within h. claims.keeps_up j within (omega arith);
+      asks = claims.asks;
+      keeps = claims.keeps;
     })
 
 pub image_sound : (bytes : List ℕ) (status : ℕ) → length bytes ≤ 1000 → IsSound (image_of bytes status)

@@ -1,7 +1,7 @@
 //! Images of programs that write given bytes, one call each, and exit with a given status.
 #![tactic(auto)]
 
-ghost use Rattle.std.specs.Prelude.{◌≡◌, ℕ, ◌+◌, ◌*◌, ◌<◌, ◌≤◌, ◌++◌, ◌∷◌, [], length, IfOk, OnOk, pos};
+ghost use Rattle.std.specs.Prelude.{◌≡◌, ℕ, ◌+◌, ◌*◌, ◌<◌, ◌≤◌, ◌++◌, ◌∷◌, List, [], length, IfOk, OnOk, pos};
 ghost use Rattle.fsc_base.specs.Image.{IsSound};
 ghost use Rattle.rv_isa.specs.Encoding.{IsValid};
 ghost use Rattle.rv_run.specs.Machine.{start_of};
@@ -113,7 +113,7 @@ fn assembled(alloc: Global, bytes: &[u8], status: u8) -> Result<Image, NoMemory>
 pub fn image(alloc: Global, bytes: &[u8], status: u8) -> Result<Image, NoMemory>
     requires { length bytes.now ≤ 1000 }
     ensures sound { IfOk result IsSound }
-    ensures writes { IfOk result (λ image. (n : ℕ) → Writes bytes.now status n (image_run n (start_of image))) }
+    ensures writes { IfOk result (λ image. (n : ℕ) (input : List ℕ) → Writes bytes.now status n input (image_run n (start_of image) input)) }
 {
     let image = assembled(alloc, bytes, status)?;
     Ok(image)
