@@ -29,6 +29,7 @@ fn fill<S: Source>(target: &mut [u8], input: &mut S) -> Filled
     ensures failed { (count : ℕ) → result ≡ Filled.Failed count → Rose (S.fault_count input.old) (S.fault_count input.new) }
     ensures counted { S.fault_count input.old ≤ S.fault_count input.new }
     ensures untouched { length target.old ≡ 0 → input.new ≡ input.old }
+    ensures nothing { length target.old ≡ 0 → result ≡ Filled.Read 0 }
 {
     let mut buffer = [0; 256];
     let mut taken = 0;
@@ -55,6 +56,7 @@ impl FlatRegion {
         ensures failed { (count : ℕ) → result ≡ Filled.Failed count → Rose (S.fault_count input.old) (S.fault_count input.new) }
         ensures counted { S.fault_count input.old ≤ S.fault_count input.new }
         ensures untouched { n ≡ 0 → input.new ≡ input.old }
+        ensures nothing { n ≡ 0 → result ≡ Filled.Read 0 }
     {
         let start = (at - self.address) as usize;
         fill(
@@ -71,6 +73,7 @@ fn fill_in<S: Source>(regions: &mut [FlatRegion], at: u32, n: u32, input: &mut S
     ensures failed { (count : ℕ) → result ≡ Filled.Failed count → Rose (S.fault_count input.old) (S.fault_count input.new) }
     ensures counted { S.fault_count input.old ≤ S.fault_count input.new }
     ensures untouched { n ≡ 0 → input.new ≡ input.old }
+    ensures nothing { n ≡ 0 → result ≡ Filled.Read 0 }
 {
     let Some(place) = place_of(regions, Right::Write, at, n as usize) else {
         return Filled::Read(0);
@@ -103,6 +106,7 @@ impl Guest {
         ensures failed { (count : ℕ) → result ≡ Filled.Failed count → Rose (S.fault_count input.old) (S.fault_count input.new) }
         ensures counted { S.fault_count input.old ≤ S.fault_count input.new }
         ensures untouched { n ≡ 0 → input.new ≡ input.old }
+        ensures nothing { n ≡ 0 → result ≡ Filled.Read 0 }
     {
         fill_in(self.regions.as_mut_slice(), at, n, input)
     }

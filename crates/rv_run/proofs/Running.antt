@@ -1,5 +1,6 @@
 -- A run that goes on by one instruction, ends with it, or is done.
 use Rattle.std.proofs.Common.{◌≡◌, ℕ, zero, suc, ◌+◌, ◌-◌, ◌<◌, ◌≤◌, List, [], ◌∷◌, ◌++◌, length, take, drop, Option, Some, None, ◌⊎◌, inl, inr, refl, sym, ap, subst, ◌∙◌, append_assoc, add_assoc, zero-add, arith}
+use Rattle.std.specs.Prelude.{IsSome}
 use Rattle.std.proofs.lemmas.List.{append-nil, nil_from_length}
 use Rattle.fsc_outside.specs.Streams.{Appends, AppendsFront}
 use Rattle.fsc_outside.proofs.Appending.{appends_then, appends_nothing, appends_front_then, appends_front_longer, appends_front_whole}
@@ -8,7 +9,7 @@ use Rattle.rv_run.specs.declared.stop.Stop.{Stop}
 use Rattle.rv_run.specs.declared.stop.Stop.TheVariants as stop
 use Rattle.guest_mem.specs.Filling.{TakesUpTo, TakesFront}
 use Rattle.rv_run.specs.Machine.{State, Action, Goes, Takes, Exits, Stops, Traps, action_of, counted}
-use Rattle.rv_run.specs.ImageRun.{ImageRun, Streams, writing_first, asking_first, ending, beginning, image_run, GoesOn, IsCutShort, IsReadCut, EndsBy, Performs, TakesNothing, IsKnown, LeavesInput, RunsWhole, Runs}
+use Rattle.rv_run.specs.ImageRun.{ImageRun, Streams, writing_first, asking_first, ending, beginning, image_run, GoesOn, IsCutShort, IsReadCut, EndsBy, Performs, TakesNothing, IsKnown, given_of, LeavesInput, RunsWhole, Runs}
 
 -- what a run has done so far: the whole is what it wrote and asked for, and then the run from here on what is left
 pub record SoFar (whole : ImageRun) (steps : ℕ) (s : State) (before now : Streams) (given : List ℕ) : Type 0 where
@@ -202,3 +203,13 @@ asks_nothing whole m s before now given (Traps kind) is so_far unasked = tt
 pub takes_none : (whole : ImageRun) (m : ℕ) (s : State) (before now : Streams) (given : List ℕ)
     → SoFar whole (suc m) s before now given → whole.asked ≡ 0 → TakesNothing (action_of s)
 takes_none whole m s before now given so_far unasked = asks_nothing whole m s before now given (action_of s) refl so_far unasked
+
+-- a run that asks for nothing is known
+pub known_unasked : (told : Option (List ℕ)) (asked : ℕ) → asked ≡ 0 → IsKnown told (given_of told) asked
+known_unasked None asked unasked = unasked
+known_unasked (Some left) asked unasked = refl
+
+-- and one over a source that tells
+pub known_told : (told : Option (List ℕ)) (asked : ℕ) → IsSome told → IsKnown told (given_of told) asked
+known_told None asked is_told = absurd cc
+known_told (Some left) asked is_told = refl

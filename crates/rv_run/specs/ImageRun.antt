@@ -126,6 +126,11 @@ abbrev pub IsKnown : (told : Option (List ℕ)) (given : List ℕ) (asked : ℕ)
 IsKnown None given asked = asked ≡ 0
 IsKnown (Some left) given asked = left ≡ given
 
+-- what the source has left, where it tells
+abbrev pub given_of : Option (List ℕ) → List ℕ
+given_of None = []
+given_of (Some left) = left
+
 -- what is left of the input, where the source tells
 abbrev pub LeavesInput : (before after : Option (List ℕ)) (left : List ℕ) → Type 0
 LeavesInput None after left = Unit {0}

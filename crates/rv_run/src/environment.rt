@@ -43,6 +43,7 @@ impl Machine {
         ensures read_counted { S.fault_count input.old ≤ S.fault_count input.new }
         ensures write_counted { O.fault_count out.old ≤ O.fault_count out.new }
         ensures untouched { TakesNothing (ecall self.old) → input.new ≡ input.old }
+        ensures unread { TakesNothing (ecall self.old) → result ≢ Step.Ended Stop.ReadFault }
     {
         match self.registers[17] {
             READ => self.read_call(input),
@@ -62,6 +63,7 @@ impl Machine {
         ensures reads { result ≢ Step.Ended Stop.WriteFault }
         ensures counted { S.fault_count input.old ≤ S.fault_count input.new }
         ensures untouched { TakesNothing (read_call self.old) → input.new ≡ input.old }
+        ensures unread { TakesNothing (read_call self.old) → result ≢ Step.Ended Stop.ReadFault }
     {
         let at = self.registers[11];
         let length = self.registers[12];

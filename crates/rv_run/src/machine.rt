@@ -1,6 +1,6 @@
 //! The machine and its runs.
 
-ghost use Rattle.std.specs.Prelude.{◌≡◌, ℕ, ◌+◌, ◌^◌, ◌<◌, ◌≤◌, List, IfOk, slice_index};
+ghost use Rattle.std.specs.Prelude.{◌≡◌, ◌≢◌, ℕ, ◌+◌, ◌^◌, ◌<◌, ◌≤◌, List, IfOk, slice_index};
 ghost use Rattle.fsc_outside.specs.Counts.{Rose};
 ghost use Rattle.fsc_base.specs.Image.{IsSound};
 ghost use Rattle.guest_mem.specs.Guest.{loaded};
@@ -135,6 +135,7 @@ impl Machine {
         ensures read_counted { S.fault_count input.old ≤ S.fault_count input.new }
         ensures write_counted { O.fault_count out.old ≤ O.fault_count out.new }
         ensures untouched { TakesNothing (action_of self.old) → input.new ≡ input.old }
+        ensures unread { TakesNothing (action_of self.old) → result ≢ Step.Ended Stop.ReadFault }
     {
         match self.instruction() {
             Ok(inst) => self.perform(inst, input, out),
@@ -154,6 +155,7 @@ impl Machine {
         ensures read_counted { S.fault_count input.old ≤ S.fault_count input.new }
         ensures write_counted { O.fault_count out.old ≤ O.fault_count out.new }
         ensures untouched { TakesNothing (row inst self.old) → input.new ≡ input.old }
+        ensures unread { TakesNothing (row inst self.old) → result ≢ Step.Ended Stop.ReadFault }
     {
         if inst == Inst::Ecall {
             return self.ecall(input, out);
@@ -175,6 +177,7 @@ impl Machine {
         ensures read_counted { S.fault_count input.old ≤ S.fault_count input.new }
         ensures write_counted { O.fault_count out.old ≤ O.fault_count out.new }
         ensures untouched { (given : List ℕ) → (image_run n self.old given).asked ≡ 0 → input.new ≡ input.old }
+        ensures unread { (given : List ℕ) → (image_run n self.old given).asked ≡ 0 → result ≢ Stop.ReadFault }
     {
         for _ in 0..n {
             match self.step(input, out) {

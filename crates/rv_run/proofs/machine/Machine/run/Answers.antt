@@ -1,4 +1,6 @@
-use Rattle.std.proofs.Common.{◌+◌, ◌-◌, inr, refl, ◌∙◌, arith}
+use Rattle.std.proofs.Common.{◌+◌, ◌-◌, inr, refl, ap, ◌∙◌, arith}
+use Rattle.rv_run.specs.declared.stop.Step.TheVariants as step
+use Rattle.rv_run.specs.declared.stop.Stop.{Stop}
 use Rattle.rv_run.specs.ImageRun.{image_run}
 use Rattle.rv_run.proofs.Counting.{one_more}
 use Rattle.rv_run.proofs.Running.{goes_on, ends, next_of, all_of, none_of, told_or_unasked, takes_none}
@@ -47,3 +49,9 @@ returns-in-Ended-clause-untouched g c = λ given unasked.
     let whole = image_run c.args.n c.args.self.now given in
     let so_far = next_of whole c.args.n c.loop.counter c.loop.self _ _ given c.loop-test.true (c.loop.invariant.run given (inr unasked)) in
     c.step.ensures.untouched (takes_none whole (c.args.n - (c.loop.counter + 1)) c.loop.self _ _ given so_far unasked) ∙ c.loop.invariant.untouched given unasked
+
+pub returns-in-Ended-clause-unread : goal.returns-in-Ended-clause-unread
+returns-in-Ended-clause-unread g c = λ given unasked e.
+    let whole = image_run c.args.n c.args.self.now given in
+    let so_far = next_of whole c.args.n c.loop.counter c.loop.self _ _ given c.loop-test.true (c.loop.invariant.run given (inr unasked)) in
+    c.step.ensures.unread (takes_none whole (c.args.n - (c.loop.counter + 1)) c.loop.self _ _ given so_far unasked) (c.in-Ended.is ∙ ap (λ (s : Stop). step.Ended s) e)
