@@ -1,4 +1,5 @@
 mod Asking
+mod Going
 mod Performing
 mod Promises
 mod Refusing

@@ -69,20 +69,20 @@ reported_answer run steps said ending before after (inr (inl fault)) h =
 reported_answer run steps said ending before after (inr (inr memory)) h =
     subst (λ (e : Ending). Answers run steps e before after) (sym memory) (front_written run steps said before after h)
 
-pub is_run : (made : Option Image) (said ending : Ending) (words : List (List ℕ)) (counts : FileCounts) (before after : Option (List ℕ))
-    → Performed made said words counts before after → IsUnless said ending → IsRunOf made ending words counts.told before after
-is_run None said ending words counts before after (refused none why wrote) report =
+pub is_run : (made : Option Image) (said ending : Ending) (words : List (List ℕ)) (counts : FileCounts) (given : List ℕ) (before after : Option (List ℕ))
+    → Performed made said words counts given before after → IsUnless said ending → IsRunOf made ending words counts.told given before after
+is_run None said ending words counts given before after (refused none why wrote) report =
     (reported_refusal said ending report (refusal_of_words said words why), wrote)
-is_run (Some image) said ending words counts before after (refused none why wrote) report = absurd cc
-is_run None said ending words counts before after (ran file steps usable asks runs) report =
+is_run (Some image) said ending words counts given before after (refused none why wrote) report = absurd cc
+is_run None said ending words counts given before after (ran file steps usable asks runs) report =
     (reported_refusal said ending report (refusal_of_file said file counts runs.0), runs.1)
-is_run (Some image) said ending words counts before after (ran file steps usable asks runs) report =
+is_run (Some image) said ending words counts given before after (ran file steps usable asks runs) report =
     let program = runs.0 in
     let job : Job = record { file = file; steps = steps; text = runs.1.0; program = program } in (
       job,
       record { usable = usable; request = asks; text = runs.1.1; plain = runs.1.2 },
       runs.2,
-      reported_answer (image_run steps (start_of image)) steps said ending before after report runs.3,
+      reported_answer (image_run steps (start_of image) given) steps said ending before after report runs.3,
     )
 
 -- ---- causes
@@ -93,18 +93,18 @@ said_is said ending (inl same) fault memory = same
 said_is said ending (inr (inl is)) fault memory = absurd (fault is)
 said_is said ending (inr (inr is)) fault memory = absurd (memory is)
 
-command_said : (made : Option Image) (words : List (List ℕ)) (counts : FileCounts) (before after : Option (List ℕ))
-    → Performed made (NotBuilt Command) words counts before after → IsUsable words × ((file : List ℕ) (steps : ℕ) → Asks words file steps → ⊥)
-command_said made words counts before after (refused none why wrote) = why
-command_said None words counts before after (ran file steps usable asks runs) = absurd runs.0
-command_said (Some image) words counts before after (ran file steps usable asks runs) = absurd runs.3
+command_said : (made : Option Image) (words : List (List ℕ)) (counts : FileCounts) (given : List ℕ) (before after : Option (List ℕ))
+    → Performed made (NotBuilt Command) words counts given before after → IsUsable words × ((file : List ℕ) (steps : ℕ) → Asks words file steps → ⊥)
+command_said made words counts given before after (refused none why wrote) = why
+command_said None words counts given before after (ran file steps usable asks runs) = absurd runs.0
+command_said (Some image) words counts given before after (ran file steps usable asks runs) = absurd runs.3
 
-pub command_only : (made : Option Image) (said ending : Ending) (words : List (List ℕ)) (counts : FileCounts) (before after : Option (List ℕ))
-    → Performed made said words counts before after → IsUnless said ending → ending ≡ NotBuilt Command
+pub command_only : (made : Option Image) (said ending : Ending) (words : List (List ℕ)) (counts : FileCounts) (given : List ℕ) (before after : Option (List ℕ))
+    → Performed made said words counts given before after → IsUnless said ending → ending ≡ NotBuilt Command
     → IsUsable words × ((file : List ℕ) (steps : ℕ) → Asks words file steps → ⊥)
-command_only made said ending words counts before after performed report is =
+command_only made said ending words counts given before after performed report is =
     let same : said ≡ NotBuilt Command = sym (said_is said ending report (λ (e : ending ≡ NoteFault). cc) (λ (e : ending ≡ NoMemory). cc)) ∙ is in
-    command_said made words counts before after (subst (λ (e : Ending). Performed made e words counts before after) same performed)
+    command_said made words counts given before after (subst (λ (e : Ending). Performed made e words counts given before after) same performed)
 
 unlisted_words : (ending : Ending) (words : List (List ℕ)) → IsUsable words → RefusesWords ending words → ending ≡ NotBuilt Command
 unlisted_words Usage words usable why = absurd (why usable)
@@ -118,10 +118,10 @@ unlisted_words WriteFault words usable why = absurd why
 unlisted_words NoteFault words usable why = absurd why
 unlisted_words NoMemory words usable why = absurd why
 
-pub command : (made : Option Image) (said : Ending) (words : List (List ℕ)) (counts : FileCounts) (before after : Option (List ℕ))
-    → Performed made said words counts before after → IsUsable words → ((file : List ℕ) (steps : ℕ) → Asks words file steps → ⊥) → said ≡ NotBuilt Command
-command made said words counts before after (refused none why wrote) usable unasked = unlisted_words said words usable why
-command made said words counts before after (ran file steps _ asks runs) usable unasked = absurd (unasked file steps asks)
+pub command : (made : Option Image) (said : Ending) (words : List (List ℕ)) (counts : FileCounts) (given : List ℕ) (before after : Option (List ℕ))
+    → Performed made said words counts given before after → IsUsable words → ((file : List ℕ) (steps : ℕ) → Asks words file steps → ⊥) → said ≡ NotBuilt Command
+command made said words counts given before after (refused none why wrote) usable unasked = unlisted_words said words usable why
+command made said words counts given before after (ran file steps _ asks runs) usable unasked = absurd (unasked file steps asks)
 
 -- ---- a job that is asked for is run
 
@@ -167,27 +167,27 @@ job_words WriteFault words file steps usable asks why = why
 job_words NoteFault words file steps usable asks why = why
 job_words NoMemory words file steps usable asks why = why
 
-job_ends : (made : Option Image) (said : Ending) (words : List (List ℕ)) (counts : FileCounts) (before after : Option (List ℕ)) (job : Job)
-    → Performed made said words counts before after → IsSome counts.told → IsAsked words counts.told job
+job_ends : (made : Option Image) (said : Ending) (words : List (List ℕ)) (counts : FileCounts) (given : List ℕ) (before after : Option (List ℕ)) (job : Job)
+    → Performed made said words counts given before after → IsSome counts.told → IsAsked words counts.told job
     → (Rose counts.faults_before counts.faults_after → ⊥) → (Rose counts.absences_before counts.absences_after → ⊥)
     → (said ≡ WriteFault → ⊥) → (said ≡ NoteFault → ⊥) → IsEnd said
-job_ends made said words counts before after job (refused none why wrote) is_told asked no_fault no_absence no_write unnoted =
+job_ends made said words counts given before after job (refused none why wrote) is_told asked no_fault no_absence no_write unnoted =
     absurd (job_words said words job.file job.steps asked.usable asked.request why)
-job_ends None said words counts before after job (ran file steps usable asks runs) is_told asked no_fault no_absence no_write unnoted =
+job_ends None said words counts given before after job (ran file steps usable asks runs) is_told asked no_fault no_absence no_write unnoted =
     let same = one_request words file job.file steps job.steps asks asked.request in
     job_refused said file counts job is_told same.0 asked.text asked.plain runs.0 no_fault no_absence
-job_ends (Some image) said words counts before after job (ran file steps usable asks runs) is_told asked no_fault no_absence no_write unnoted =
-    job_answered (image_run steps (start_of image)) steps said before after runs.3 no_write unnoted
+job_ends (Some image) said words counts given before after job (ran file steps usable asks runs) is_told asked no_fault no_absence no_write unnoted =
+    job_answered (image_run steps (start_of image) given) steps said before after runs.3 no_write unnoted
 
 reported_end : (said ending : Ending) → IsUnless said ending → (ending ≡ NoteFault → ⊥) → IsEnd said → IsEnd ending
 reported_end said ending (inl same) no_fault h = subst IsEnd (sym same) h
 reported_end said ending (inr (inl fault)) no_fault h = absurd (no_fault fault)
 reported_end said ending (inr (inr memory)) no_fault h = subst IsEnd (sym memory) tt
 
-pub ends : (made : Option Image) (said ending : Ending) (words : List (List ℕ)) (counts : FileCounts) (before after : Option (List ℕ)) (job : Job)
-    → Performed made said words counts before after → IsUnless said ending → IsSome counts.told → IsAsked words counts.told job
+pub ends : (made : Option Image) (said ending : Ending) (words : List (List ℕ)) (counts : FileCounts) (given : List ℕ) (before after : Option (List ℕ)) (job : Job)
+    → Performed made said words counts given before after → IsUnless said ending → IsSome counts.told → IsAsked words counts.told job
     → (Rose counts.faults_before counts.faults_after → ⊥) → (Rose counts.absences_before counts.absences_after → ⊥)
     → (said ≡ WriteFault → ⊥) → (said ≡ NoteFault → ⊥) → (ending ≡ NoteFault → ⊥) → IsEnd ending
-ends made said ending words counts before after job performed report is_told asked no_fault no_absence no_write unnoted no_note =
+ends made said ending words counts given before after job performed report is_told asked no_fault no_absence no_write unnoted no_note =
     reported_end said ending report no_note
-    (job_ends made said words counts before after job performed is_told asked no_fault no_absence no_write unnoted)
+    (job_ends made said words counts given before after job performed is_told asked no_fault no_absence no_write unnoted)

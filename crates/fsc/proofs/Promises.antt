@@ -53,40 +53,40 @@ not_in_time run size n in_time steps =
 nothing_is_front : (before after : Option (List ℕ)) (bytes : List ℕ) → Appends before after [] → AppendsFront before after bytes
 nothing_is_front before after bytes none = (0, omega arith, none)
 
-pub prefix : (made : Option Image) (ending : Ending) (words : List (List ℕ)) (told : Option FileMap) (before after : Option (List ℕ))
-    → IsRunOf made ending words told before after → (job : Job) → IsSome told → IsAsked words told job → AppendsFront before after job.program.bytes
-prefix None ending words told before after run job is_told asked = nothing_is_front before after job.program.bytes run.1
-prefix (Some image) ending words told before after run job is_told asked =
+pub prefix : (made : Option Image) (ending : Ending) (words : List (List ℕ)) (told : Option FileMap) (given : List ℕ) (before after : Option (List ℕ))
+    → IsRunOf made ending words told given before after → (job : Job) → IsSome told → IsAsked words told job → AppendsFront before after job.program.bytes
+prefix None ending words told given before after run job is_told asked = nothing_is_front before after job.program.bytes run.1
+prefix (Some image) ending words told given before after run job is_told asked =
     let other : Job = run.0 in
     let same = one_job words told other job is_told run.1 asked in
-    let said = image_run other.steps (start_of image) in
-    let front = front_of_front before after said.written other.program.bytes (run.2 other.steps).front (front_written said other.steps ending before after run.3) in
+    let said = image_run other.steps (start_of image) given in
+    let front = front_of_front before after said.written other.program.bytes (run.2 other.steps given).front (front_written said other.steps ending before after run.3) in
     subst (λ (p : Program). AppendsFront before after p.bytes) same.0 front
 
-pub exited : (made : Option Image) (ending : Ending) (words : List (List ℕ)) (told : Option FileMap) (before after : Option (List ℕ))
-    → IsRunOf made ending words told before after → (job : Job) (status : ℕ) → IsSome told → IsAsked words told job → ending ≡ Exited status
+pub exited : (made : Option Image) (ending : Ending) (words : List (List ℕ)) (told : Option FileMap) (given : List ℕ) (before after : Option (List ℕ))
+    → IsRunOf made ending words told given before after → (job : Job) (status : ℕ) → IsSome told → IsAsked words told job → ending ≡ Exited status
     → (status ≡ job.program.status) × Appends before after job.program.bytes
-exited None ending words told before after run job status is_told asked is = absurd (subst IsRefusal is run.0)
-exited (Some image) ending words told before after run job status is_told asked is =
+exited None ending words told given before after run job status is_told asked is = absurd (subst IsRefusal is run.0)
+exited (Some image) ending words told given before after run job status is_told asked is =
     let other : Job = run.0 in
     let same = one_job words told other job is_told run.1 asked in
-    let said = image_run other.steps (start_of image) in
+    let said = image_run other.steps (start_of image) given in
     let answer : Answers said other.steps (Exited status) before after = subst (λ (e : Ending). Answers said other.steps e before after) is run.3 in
-    let exit = exit_is said other.program.bytes other.program.status status (run.2 other.steps).ends answer.0 in
+    let exit = exit_is said other.program.bytes other.program.status status (run.2 other.steps given).ends answer.0 in
     let whole : Appends before after other.program.bytes = subst (Appends before after) exit.1 answer.1 in
     subst (λ (p : Program). (status ≡ p.status) × Appends before after p.bytes) same.0 (exit.0, whole)
 
-pub steps_used : (made : Option Image) (ending : Ending) (words : List (List ℕ)) (told : Option FileMap) (before after : Option (List ℕ))
-    → IsRunOf made ending words told before after → (job : Job) (n : ℕ) → IsSome told → IsAsked words told job → ending ≡ StepsUsed n
+pub steps_used : (made : Option Image) (ending : Ending) (words : List (List ℕ)) (told : Option FileMap) (given : List ℕ) (before after : Option (List ℕ))
+    → IsRunOf made ending words told given before after → (job : Job) (n : ℕ) → IsSome told → IsAsked words told job → ending ≡ StepsUsed n
     → (n ≡ job.steps) × (n < 64 * (length job.program.bytes + 2)) ×
     ((j : ℕ) → j ≤ length job.program.bytes → 64 * (j + 1) ≤ n → AppendsAtLeast j before after job.program.bytes)
-steps_used None ending words told before after run job n is_told asked is = absurd (subst IsRefusal is run.0)
-steps_used (Some image) ending words told before after run job n is_told asked is =
+steps_used None ending words told given before after run job n is_told asked is = absurd (subst IsRefusal is run.0)
+steps_used (Some image) ending words told given before after run job n is_told asked is =
     let other : Job = run.0 in
     let same = one_job words told other job is_told run.1 asked in
-    let said = image_run other.steps (start_of image) in
+    let said = image_run other.steps (start_of image) given in
     let answer : Answers said other.steps (StepsUsed n) before after = subst (λ (e : Ending). Answers said other.steps e before after) is run.3 in
-    let writes = run.2 other.steps in
+    let writes = run.2 other.steps given in
     let late : n < 64 * (length other.program.bytes + 2) = rw answer.1 (not_in_time said (length other.program.bytes) other.steps writes.in_time answer.0) in
     let keeps : (j : ℕ) → j ≤ length other.program.bytes → 64 * (j + 1) ≤ n → AppendsAtLeast j before after other.program.bytes = λ j within time.
     at_least j before after said.written other.program.bytes writes.front (writes.keeps_up j within (rw answer.1 at time)) answer.2 in (

@@ -35,15 +35,15 @@ text_refused Usage file text counts is_told held why = absurd why
 text_refused WriteFault file text counts is_told held why = absurd why
 text_refused NoteFault file text counts is_told held why = absurd why
 
-text_said : (made : Option Image) (said : Ending) (words : List (List ℕ)) (counts : FileCounts) (before after : Option (List ℕ)) (file : List ℕ) (steps : ℕ) (text : List ℕ)
-    → Performed made said words counts before after → IsSome counts.told → IsUsable words → Asks words file steps → Holds counts.told file (Some text)
+text_said : (made : Option Image) (said : Ending) (words : List (List ℕ)) (counts : FileCounts) (given : List ℕ) (before after : Option (List ℕ)) (file : List ℕ) (steps : ℕ) (text : List ℕ)
+    → Performed made said words counts given before after → IsSome counts.told → IsUsable words → Asks words file steps → Holds counts.told file (Some text)
     → ((program : Program) → IsPlain text program → ⊥) → Said said
-text_said made said words counts before after file steps text (refused none why wrote) is_told usable asks held no_program =
+text_said made said words counts given before after file steps text (refused none why wrote) is_told usable asks held no_program =
     absurd (job_words said words file steps usable asks why)
-text_said None said words counts before after file steps text (ran other m _ other_asks runs) is_told usable asks held no_program =
+text_said None said words counts given before after file steps text (ran other m _ other_asks runs) is_told usable asks held no_program =
     let same = one_request words other file m steps other_asks asks in
     text_refused said other text counts is_told (subst (λ (f : List ℕ). Holds counts.told f (Some text)) (sym same.0) held) runs.0
-text_said (Some image) said words counts before after file steps text (ran other m _ other_asks runs) is_told usable asks held no_program =
+text_said (Some image) said words counts given before after file steps text (ran other m _ other_asks runs) is_told usable asks held no_program =
     let same = one_request words other file m steps other_asks asks in
     let held_here : Holds counts.told file (Some runs.1.0) = subst (λ (f : List ℕ). Holds counts.told f (Some runs.1.0)) same.0 runs.1.1 in
     let one = one_text counts.told file runs.1.0 text is_told held_here held in
@@ -59,9 +59,9 @@ reported_then said ending (inl same) h = said_then said ending same h
 reported_then said ending (inr (inl fault)) h = inl (inr (inl fault))
 reported_then said ending (inr (inr memory)) h = inl (inr (inr memory))
 
-pub text : (made : Option Image) (said ending : Ending) (words : List (List ℕ)) (counts : FileCounts) (before after : Option (List ℕ))
-    → Performed made said words counts before after → IsUnless said ending
+pub text : (made : Option Image) (said ending : Ending) (words : List (List ℕ)) (counts : FileCounts) (given : List ℕ) (before after : Option (List ℕ))
+    → Performed made said words counts given before after → IsUnless said ending
     → (file : List ℕ) (steps : ℕ) (text : List ℕ) → IsSome counts.told → IsUsable words → Asks words file steps → Holds counts.told file (Some text)
     → ((program : Program) → IsPlain text program → ⊥) → IsUnlessFault (NotBuilt Text) ending
-text made said ending words counts before after performed report file steps bytes is_told usable asks held no_program =
-    reported_then said ending report (text_said made said words counts before after file steps bytes performed is_told usable asks held no_program)
+text made said ending words counts given before after performed report file steps bytes is_told usable asks held no_program =
+    reported_then said ending report (text_said made said words counts given before after file steps bytes performed is_told usable asks held no_program)

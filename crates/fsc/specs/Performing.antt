@@ -58,15 +58,15 @@ abbrev pub GivesProgram : Program → (file : List ℕ) (told : Option FileMap) 
 GivesProgram program file told = (text : List ℕ) × Holds told file (Some text) × IsPlain text program
 
 -- the image is the program's, and the answer that of its run; or memory was refused first
-abbrev pub Runs : Option Image → Ending → Program → (steps : ℕ) (before after : Option (List ℕ)) → Type 0
-Runs None ending program steps before after = (ending ≡ NoMemory) × Appends before after []
-Runs (Some image) ending program steps before after = IsImageOf program image × Answers (image_run steps (start_of image)) steps ending before after
+abbrev pub Runs : Option Image → Ending → Program → (steps : ℕ) (given : List ℕ) (before after : Option (List ℕ)) → Type 0
+Runs None ending program steps given before after = (ending ≡ NoMemory) × Appends before after []
+Runs (Some image) ending program steps given before after = IsImageOf program image × Answers (image_run steps (start_of image) given) steps ending before after
 
 -- a run of the file
-abbrev pub RunsFile : Option Image → Ending → (file : List ℕ) (steps : ℕ) → FileCounts → (before after : Option (List ℕ)) → Type 0
-RunsFile None ending file steps counts before after = RefusesFile ending file counts × Appends before after []
-RunsFile (Some image) ending file steps counts before after =
-    (program : Program) × GivesProgram program file counts.told × IsImageOf program image × Answers (image_run steps (start_of image)) steps ending before after
+abbrev pub RunsFile : Option Image → Ending → (file : List ℕ) (steps : ℕ) → FileCounts → (given : List ℕ) (before after : Option (List ℕ)) → Type 0
+RunsFile None ending file steps counts given before after = RefusesFile ending file counts × Appends before after []
+RunsFile (Some image) ending file steps counts given before after =
+    (program : Program) × GivesProgram program file counts.told × IsImageOf program image × Answers (image_run steps (start_of image) given) steps ending before after
 
 -- what the words are that ask for no run
 abbrev pub RefusesWords : Ending → List (List ℕ) → Type 0
@@ -81,7 +81,7 @@ RefusesWords WriteFault words = ⊥
 RefusesWords NoteFault words = ⊥
 RefusesWords NoMemory words = ⊥
 
--- a call with these words
-pub data Performed (made : Option Image) (ending : Ending) (words : List (List ℕ)) (counts : FileCounts) (before after : Option (List ℕ)) : Type 0 where
-  refused : made ≡ None → RefusesWords ending words → Appends before after [] → Performed made ending words counts before after
-  ran : (file : List ℕ) (steps : ℕ) → IsUsable words → Asks words file steps → RunsFile made ending file steps counts before after → Performed made ending words counts before after
+-- a call with these words, over an input that has `given` left where it tells
+pub data Performed (made : Option Image) (ending : Ending) (words : List (List ℕ)) (counts : FileCounts) (given : List ℕ) (before after : Option (List ℕ)) : Type 0 where
+  refused : made ≡ None → RefusesWords ending words → Appends before after [] → Performed made ending words counts given before after
+  ran : (file : List ℕ) (steps : ℕ) → IsUsable words → Asks words file steps → RunsFile made ending file steps counts given before after → Performed made ending words counts given before after

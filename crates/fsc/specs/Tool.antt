@@ -1,5 +1,6 @@
 -- What the tool is asked for, and what it answers, makes and writes.
--- `told` is the map of the files where the object tells it, `before` and `after` what the output holds where it tells.
+-- `told` is the map of the files where the object tells it, `given` what the input has left where it tells, `before`
+-- and `after` what the output holds where it tells.
 use Rattle.std.specs.Prelude.{◌≡◌, ◌≢◌, ℕ, ◌≤◌, ◌⊎◌, List, [], take, length, Option, Some, None}
 use Rattle.fsc_base.specs.declared.image.Image.{Image}
 use Rattle.fsc_outside.specs.FileMap.{FileMap, Holds}
@@ -31,7 +32,7 @@ pub record IsAsked (words : List (List ℕ)) (told : Option FileMap) (job : Job)
 
 -- what every run of the image does is what the program says
 abbrev pub IsImageOf : Program → Image → Type 0
-IsImageOf program image = (n : ℕ) → Writes program.bytes program.status n (image_run n (start_of image))
+IsImageOf program image = (n : ℕ) (input : List ℕ) → Writes program.bytes program.status n input (image_run n (start_of image) input)
 
 -- The answer and what was written are those of the run. After a refusal of the outside a front of it was written.
 abbrev pub Answers : ImageRun → (steps : ℕ) → Ending → (before after : Option (List ℕ)) → Type 0
@@ -59,10 +60,10 @@ IsRefusal (NotBuilt form) = Unit {0}
 
 -- Either no image was made and nothing was written, or the image is that of a job that is asked for, and the answer and
 -- what was written are those of its run.
-abbrev pub IsRunOf : Option Image → Ending → (words : List (List ℕ)) (told : Option FileMap) (before after : Option (List ℕ)) → Type 0
-IsRunOf None ending words told before after = IsRefusal ending × Appends before after []
-IsRunOf (Some image) ending words told before after =
-    (job : Job) × IsAsked words told job × IsImageOf job.program image × Answers (image_run job.steps (start_of image)) job.steps ending before after
+abbrev pub IsRunOf : Option Image → Ending → (words : List (List ℕ)) (told : Option FileMap) (given : List ℕ) (before after : Option (List ℕ)) → Type 0
+IsRunOf None ending words told given before after = IsRefusal ending × Appends before after []
+IsRunOf (Some image) ending words told given before after =
+    (job : Job) × IsAsked words told job × IsImageOf job.program image × Answers (image_run job.steps (start_of image) given) job.steps ending before after
 
 -- at least j of the bytes were written, from their front
 abbrev pub AppendsAtLeast : (j : ℕ) (before after : Option (List ℕ)) (bytes : List ℕ) → Type 0

@@ -2,6 +2,7 @@
 
 ghost use Rattle.std.specs.Prelude.{◌≡◌, ◌≢◌, ◌≤◌, length, IfOk, IfErr, None};
 ghost use Rattle.fsc_outside.specs.Counts.{Rose};
+ghost use Rattle.rv_run.specs.ImageRun.{given_of};
 ghost use Rattle.fsc.specs.Performing.{NamesFile, RefusesText, GivesProgram, RefusesFile, Runs, RunsFile};
 ghost use Rattle.plain_text.specs.Program.{IsPlain};
 
@@ -79,7 +80,7 @@ fn run<S: Source, O: Sink>(
 ) -> Ending
     requires few { length program.now.bytes ≤ 1000 }
     requires none { made.old ≡ None }
-    ensures runs { Runs made.new result program.now steps (O.written out.old) (O.written out.new) }
+    ensures runs { Runs made.new result program.now steps (given_of (S.left input.old)) (O.written out.old) (O.written out.new) }
     ensures failed { result ≡ Ending.WriteFault → Rose (O.fault_count out.old) (O.fault_count out.new) }
     ensures unnoted { result ≢ Ending.NoteFault }
     ensures counted { O.fault_count out.old ≤ O.fault_count out.new }
@@ -97,6 +98,8 @@ fn run<S: Source, O: Sink>(
         Stop::Steps => Ending::StepsUsed(steps),
         Stop::WriteFault => Ending::WriteFault,
         Stop::NoMemory => Ending::NoMemory,
+        Stop::ReadFault => unreachable!(),
+        Stop::StopCall { .. } => unreachable!(),
         Stop::Trap { .. } => unreachable!(),
     }
 }
@@ -119,7 +122,7 @@ pub fn go<F: Files, S: Source, O: Sink>(
       faults_after = F.fault_count files.new;
       absences_before = F.absence_count files.old;
       absences_after = F.absence_count files.new;
-    }) (O.written out.old) (O.written out.new) }
+    }) (given_of (S.left input.old)) (O.written out.old) (O.written out.new) }
     ensures failed { result ≡ Ending.WriteFault → Rose (O.fault_count out.old) (O.fault_count out.new) }
     ensures unnoted { result ≢ Ending.NoteFault }
     ensures kept { F.contents files.new ≡ F.contents files.old }

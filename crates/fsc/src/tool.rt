@@ -4,6 +4,7 @@ ghost use Rattle.std.specs.Prelude.{◌≡◌, ◌≢◌, ℕ, List, ◌+◌, �
 ghost use Rattle.fsc_outside.specs.Counts.{Rose};
 ghost use Rattle.fsc_outside.specs.FileMap.{Holds};
 ghost use Rattle.fsc_outside.specs.Streams.{Appends, AppendsFront};
+ghost use Rattle.rv_run.specs.ImageRun.{given_of};
 ghost use Rattle.plain_text.specs.declared.program.Program.{Program};
 ghost use Rattle.plain_text.specs.Program.{IsPlain};
 ghost use Rattle.fsc.specs.Words.{IsUsable, Asks};
@@ -35,7 +36,7 @@ fn perform<F: Files, S: Source, O: Sink>(
       faults_after = F.fault_count files.new;
       absences_before = F.absence_count files.old;
       absences_after = F.absence_count files.new;
-    }) (O.written out.old) (O.written out.new) }
+    }) (given_of (S.left input.old)) (O.written out.old) (O.written out.new) }
     ensures failed { result ≡ Ending.WriteFault → Rose (O.fault_count out.old) (O.fault_count out.new) }
     ensures unnoted { result ≢ Ending.NoteFault }
     ensures kept { F.contents files.new ≡ F.contents files.old }
@@ -70,7 +71,7 @@ pub fn tool<F: Files, S: Source, O: Sink, E: Sink>(
 ) -> Ending
     // The answer and what was written are those of the run of the image that was made, and of no other; without an
     // image nothing was written.
-    ensures run { IsRunOf made.new result words.now (F.contents files.old) (O.written out.old) (O.written out.new) }
+    ensures run { IsRunOf made.new result words.now (F.contents files.old) (given_of (S.left input.old)) (O.written out.old) (O.written out.new) }
 
     // Of a job that the words and the told files ask for: a front of the program's bytes was written.
     ensures prefix { (job : Job) → IsSome (F.contents files.old) → IsAsked words.now (F.contents files.old) job →
