@@ -1,6 +1,6 @@
 mod Parts
-mod Places
+pub mod Accesses
 pub mod Changes
 pub mod Layouts
 pub mod LittleEndian
-pub mod Accesses
+pub mod Places
