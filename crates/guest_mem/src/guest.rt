@@ -208,8 +208,8 @@ impl Guest {
         }
     }
 
-    /// Makes these the bytes from the address `at` on, which all lie in one region that may be written. No bytes may be
-    /// written anywhere.
+    /// Makes these the bytes from the address `at` on, which all lie in one region that may be written. An empty slice may
+    /// be written anywhere.
     pub fn write_from(&mut self, at: u32, bytes: &[u8])
         requires { IsTrue (covers self.old Right.Write at (length bytes.now)) }
         ensures { with_bytes self.old at bytes.now ≡ Some self.new }
