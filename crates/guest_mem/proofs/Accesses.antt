@@ -1,13 +1,14 @@
 -- Loads, fetches and stores by the bytes that they meet.
-use Rattle.std.proofs.Common.{◌≡◌, ℕ, ◌+◌, ◌%◌, ◌^◌, ◌<◌, ◌≤◌, ◌⊎◌, inl, inr, eqb, true, List, length, Option, Some, None, Result, Ok, Err, refl, sym, ap, ◌∙◌, subst}
+use Rattle.std.proofs.Common.{◌≡◌, ℕ, ◌+◌, ◌%◌, ◌^◌, ◌<◌, ◌≤◌, ◌⊎◌, inl, inr, eqb, is_some, true, false, List, length, Option, Some, None, Result, Ok, Err, refl, sym, ap, ◌∙◌, subst}
 use Rattle.std.proofs.lemmas.Bool.{cases_Bool, eqb-true}
 use Rattle.guest_mem.specs.declared.right.Right.{Right}
-use Rattle.guest_mem.specs.declared.right.Right.TheVariants.{Execute, Read}
+use Rattle.guest_mem.specs.declared.right.Right.TheVariants.{Execute, Write, Read}
 use Rattle.guest_mem.specs.declared.fault.Fault.{Fault}
 use Rattle.guest_mem.specs.declared.fault.Fault.TheVariants as fault
 use Rattle.guest_mem.specs.Regions.{Region}
 use Rattle.guest_mem.specs.Guest.{bytes_at, with_bytes, covers, little_endian, little_endian_bytes, number_in, number_at, memory_in, loaded, fetched, stored}
 use Rattle.guest_mem.specs.Layout.{layout, AllApart, HoldBytes}
+use Rattle.guest_mem.proofs.Places.{covers-with_bytes}
 use Rattle.guest_mem.proofs.Layouts.{layout-with_bytes, HoldBytes-with_bytes}
 use Rattle.guest_mem.proofs.Changes.{length-bytes_at, AreBytes-bytes_at, bytes_at-with_bytes_same, bytes_at-with_bytes_apart}
 use Rattle.guest_mem.proofs.LittleEndian.{length-little_endian_bytes, AreBytes-little_endian_bytes, little_endian-lt, little_endian-little_endian_bytes}
@@ -30,6 +31,30 @@ pub stored-from : (width : ℕ) (regions : List Region) (at value : ℕ) (new : 
     → with_bytes regions at (little_endian_bytes width value) ≡ Some new → stored width regions at value ≡ Ok new
 unfolding stored
 stored-from width regions at value new aligned h = rw (aligned, h) refl
+
+-- an access is not refused where it is aligned and covered
+covered : (A : Type 0) (o : Option A) → is_some o ≡ true → (x : A) × (o ≡ Some x)
+covered A None h = absurd (let e : false ≡ true = h in cc)
+covered A (Some x) h = (x, refl)
+
+pub loaded-covered : (width : ℕ) (regions : List Region) (at : ℕ) → at % width ≡ 0 → covers regions Read at width ≡ true
+    → (value : ℕ) × (loaded width regions at ≡ Ok value)
+loaded-covered width regions at aligned h =
+    let found = covered (List ℕ) (bytes_at regions Read at width) h in
+    (little_endian found.0, loaded-from width regions at found.0 aligned found.1)
+
+pub fetched-covered : (regions : List Region) (at : ℕ) → at % 4 ≡ 0 → covers regions Execute at 4 ≡ true → (value : ℕ) × (fetched regions at ≡ Ok value)
+fetched-covered regions at aligned h =
+    let found = covered (List ℕ) (bytes_at regions Execute at 4) h in
+    (little_endian found.0, fetched-from regions at found.0 aligned found.1)
+
+pub stored-covered : (width : ℕ) (regions : List Region) (at value : ℕ) → at % width ≡ 0 → covers regions Write at width ≡ true
+    → (new : List Region) × (stored width regions at value ≡ Ok new)
+stored-covered width regions at value aligned h =
+    let bytes : List ℕ = little_endian_bytes width value in
+    let n : length bytes ≡ width = length-little_endian_bytes width value in
+    let done = covered (List Region) (with_bytes regions at bytes) (covers-with_bytes regions at bytes ∙ rw n h) in
+    (done.0, stored-from width regions at value done.0 aligned done.1)
 
 -- an access that is not refused, by what it gave
 in_bytes : (found : Option (List ℕ)) (value : ℕ) → number_in found ≡ Ok value → (bytes : List ℕ) × (found ≡ Some bytes) × (value ≡ little_endian bytes)

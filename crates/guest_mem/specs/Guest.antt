@@ -30,14 +30,14 @@ overwritten all place bytes = take place all ++ (bytes ++ drop (place + length b
 abbrev pub with_part : Region → (at : ℕ) → List ℕ → Region
 with_part region at bytes = record region { bytes = overwritten region.bytes (at - region.address) bytes }
 
--- n bytes of memory from an address on: those of the first region that has them all and gives the right; no bytes are
--- anywhere
+-- n bytes of memory from an address on: those of the first region that has them all and gives the right. Any address has
+-- 0 bytes.
 unfoldable pub bytes_at : List Region → Right → (at n : ℕ) → Option (List ℕ)
 bytes_at [] right at n = if n == 0 then Some [] else None
 bytes_at (region ∷ regions) right at n = if contains region right at n then Some (part region at n) else bytes_at regions right at n
 
--- memory with these bytes in it from an address on: in the first region that has as many there and may be written; no
--- bytes are anywhere
+-- memory with these bytes in it from an address on: in the first region that has as many there and may be written. 0 bytes
+-- go anywhere.
 unfoldable pub with_bytes : List Region → (at : ℕ) → List ℕ → Option (List Region)
 with_bytes [] at bytes = if length bytes == 0 then Some [] else None
 with_bytes (region ∷ regions) at bytes =
@@ -59,7 +59,7 @@ abbrev pub little_endian_bytes : (n value : ℕ) → List ℕ
 little_endian_bytes zero value = []
 little_endian_bytes (suc n) value = value % 256 ∷ little_endian_bytes n (value / 256)
 
--- the number that the bytes spell, if there are any
+-- the number that the bytes spell, where they are in memory
 abbrev pub number_in : Option (List ℕ) → Result ℕ Fault
 number_in None = Err fault.Outside
 number_in (Some bytes) = Ok (little_endian bytes)
@@ -77,7 +77,7 @@ loaded width regions at = number_at width regions Read at
 unfoldable pub fetched : List Region → (at : ℕ) → Result ℕ Fault
 fetched regions at = number_at 4 regions Execute at
 
--- the memory, if there is any
+-- the memory that is left, where the bytes could be put
 abbrev pub memory_in : Option (List Region) → Result (List Region) Fault
 memory_in None = Err fault.Outside
 memory_in (Some regions) = Ok regions

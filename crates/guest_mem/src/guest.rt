@@ -12,7 +12,7 @@ use std::alloc::Global;
 use std::marker::Model;
 
 /// All memory of a guest machine. Contracts see it as the list of its regions, in the order of the image's segments,
-/// each with all its bytes.
+/// each with all its bytes. An access looks through them in that order.
 #[derive(Debug, Drop)]
 pub struct Guest {
     pub(crate) regions: Vec<FlatRegion>,
@@ -40,7 +40,9 @@ pub(crate) fn place_of(regions: &[FlatRegion], right: Right, at: u32, n: usize) 
 /// `n` bytes from the address `at` on, where one region has them all and gives the right.
 pub(crate) fn part_in(regions: &[FlatRegion], right: Right, at: u32, n: usize) -> Option<&[u8]>
     requires { n < 2 ^ 63 }
-    ensures bytes { MatchOption result (bytes_at regions.now right at n ≡ None) (λ bytes. bytes_at regions.now right at n ≡ Some bytes.now) }
+    ensures bytes { MatchOption result
+        (bytes_at regions.now right at n ≡ None)
+        (λ bytes. bytes_at regions.now right at n ≡ Some bytes.now) }
     ensures length { IfSome result (λ bytes. length bytes.now ≡ n) }
 {
     if n == 0 {
@@ -54,7 +56,9 @@ pub(crate) fn part_in(regions: &[FlatRegion], right: Right, at: u32, n: usize) -
 
 /// Puts bytes where one region has as many from the address `at` on and may be written. Whether it could.
 fn put_in(regions: &mut [FlatRegion], at: u32, bytes: &[u8]) -> bool
-    ensures { MatchBool result (with_bytes regions.old at bytes.now ≡ Some regions.new) ((with_bytes regions.old at bytes.now ≡ None) × (regions.new ≡ regions.old)) }
+    ensures { MatchBool result
+        (with_bytes regions.old at bytes.now ≡ Some regions.new)
+        ((with_bytes regions.old at bytes.now ≡ None) × (regions.new ≡ regions.old)) }
 {
     if bytes.is_empty() {
         return true;
@@ -204,8 +208,8 @@ impl Guest {
         }
     }
 
-    /// Makes these the bytes from the address `at` on, which all lie in one region that may be written. No bytes may be
-    /// written anywhere.
+    /// Makes these the bytes from the address `at` on, which all lie in one region that may be written. An empty slice may
+    /// be written anywhere.
     pub fn write_from(&mut self, at: u32, bytes: &[u8])
         requires { IsTrue (covers self.old Right.Write at (length bytes.now)) }
         ensures { with_bytes self.old at bytes.now ≡ Some self.new }
