@@ -91,7 +91,9 @@ pub fn div(x: u32, y: u32) -> u32
     if y == 0 {
         return u32::MAX;
     }
-    x.cast_signed().wrapping_div(y.cast_signed()).cast_unsigned()
+    x.cast_signed()
+        .wrapping_div(y.cast_signed())
+        .cast_unsigned()
 }
 
 /// The quotient. Of zero it is all ones.
@@ -108,7 +110,9 @@ pub fn rem(x: u32, y: u32) -> u32
     if y == 0 {
         return x;
     }
-    x.cast_signed().wrapping_rem(y.cast_signed()).cast_unsigned()
+    x.cast_signed()
+        .wrapping_rem(y.cast_signed())
+        .cast_unsigned()
 }
 
 /// The remainder. Of zero it is `x`.
