@@ -14,15 +14,20 @@ high_fits (negsuc n) h = omega arith
 
 pub high_half : (a b : ℤ) (m n : ℕ) → unsigned_abs a ≤ m → unsigned_abs b ≤ n → m * n < 2 ^ 63 → SFits w64 a → SFits w64 b
     → cast_unsigned w32 (cast_signed w32 (cast_unsigned w32 (cast_signed w64 (cast_unsigned w64
-        (int_shr (cast_signed w64 (cast_unsigned w64 (cast_signed w64 (cast_unsigned w64 a) *ℤ cast_signed w64 (cast_unsigned w64 b)))) 32)))))
-      ≡ cast_unsigned w32 (int_shr (a *ℤ b) 32)
+    (int_shr (cast_signed w64 (cast_unsigned w64 (cast_signed w64 (cast_unsigned w64 a) *ℤ cast_signed w64 (cast_unsigned w64 b)))) 32)))))
+    ≡ cast_unsigned w32 (int_shr (a *ℤ b) 32)
 high_half a b m n a_is b_is small fits_a fits_b =
     let fits : SFits w64 (a *ℤ b) = fits_signed_mul w64 a b m n a_is b_is small in
     let half : mag (int_shr (a *ℤ b) 32) < 2 ^ 31 = high_fits (a *ℤ b) fits.sfits in
     let fits_high : SFits w64 (int_shr (a *ℤ b) 32) = record { sfits = omega arith } in
     let fits_half : SFits w32 (int_shr (a *ℤ b) 32) = record { sfits = half } in
-    rw (to_z-of_z w64 a fits_a, to_z-of_z w64 b fits_b, to_z-of_z w64 (a *ℤ b) fits, to_z-of_z w64 (int_shr (a *ℤ b) 32) fits_high,
-        to_z-of_z w32 (int_shr (a *ℤ b) 32) fits_half) refl
+    rw (
+      to_z-of_z w64 a fits_a,
+      to_z-of_z w64 b fits_b,
+      to_z-of_z w64 (a *ℤ b) fits,
+      to_z-of_z w64 (int_shr (a *ℤ b) 32) fits_high,
+      to_z-of_z w32 (int_shr (a *ℤ b) 32) fits_half,
+    ) refl
 
 -- a number that was made of its signed reading, widened
 pub widened : (x : ℕ) (read wide : ℤ) → read ≡ cast_signed w32 x → mag read < 2 ^ 31 → wide ≡ cast_signed w32 (cast_unsigned w32 read) → wide ≡ cast_signed w32 x

@@ -5,7 +5,7 @@ use Rattle.std.specs.Int.{w32, cast_unsigned, cast_signed, int_shr}
 abbrev pub signed : ℕ → ℤ
 signed x = cast_signed w32 x
 
--- the low 32 bits
+-- the word of a number from -2 ^ 31 to 2 ^ 32 - 1, in two's complement
 abbrev pub bits : ℤ → ℕ
 bits z = cast_unsigned w32 z
 

@@ -5,6 +5,9 @@
 ghost use Rattle.std.specs.Prelude.{◌≡◌};
 ghost use Rattle.rv_arith.specs.Arithmetic.{add, sub, sll, srl, sra, slt, sltu, mul, mulh, mulhsu, mulhu, div, divu, rem, remu};
 
+#[cfg(test)]
+mod tests;
+
 /// The sum, modulo 2^32.
 pub fn add(x: u32, y: u32) -> u32
     ensures { result ≡ add x y }
@@ -84,34 +87,38 @@ pub fn mulhu(x: u32, y: u32) -> u32
     (u64::from(x) * u64::from(y) >> 32) as u32
 }
 
-/// The quotient, both signed, toward zero. Of zero it is all ones, and of the least number by -1 that number.
+/// The quotient, both signed, toward zero. By zero it is all ones, and of the least number by -1 that number.
 pub fn div(x: u32, y: u32) -> u32
     ensures { result ≡ div x y }
 {
     if y == 0 {
         return u32::MAX;
     }
-    x.cast_signed().wrapping_div(y.cast_signed()).cast_unsigned()
+    x.cast_signed()
+        .wrapping_div(y.cast_signed())
+        .cast_unsigned()
 }
 
-/// The quotient. Of zero it is all ones.
+/// The quotient. By zero it is all ones.
 pub fn divu(x: u32, y: u32) -> u32
     ensures { result ≡ divu x y }
 {
     if y == 0 { u32::MAX } else { x / y }
 }
 
-/// The remainder, both signed, with the sign of `x`. Of zero it is `x`, and of the least number by -1 it is 0.
+/// The remainder, both signed, with the sign of `x`. By zero it is `x`, and of the least number by -1 it is 0.
 pub fn rem(x: u32, y: u32) -> u32
     ensures { result ≡ rem x y }
 {
     if y == 0 {
         return x;
     }
-    x.cast_signed().wrapping_rem(y.cast_signed()).cast_unsigned()
+    x.cast_signed()
+        .wrapping_rem(y.cast_signed())
+        .cast_unsigned()
 }
 
-/// The remainder. Of zero it is `x`.
+/// The remainder. By zero it is `x`.
 pub fn remu(x: u32, y: u32) -> u32
     ensures { result ≡ remu x y }
 {

@@ -6,8 +6,8 @@ pub returns : goal.returns
 returns c =
     let first = widened c.args.x c.cast_signed.result c.from.result c.cast_signed.ensures c.cast_signed.type_inv c.from.ensures in
     c.cast_unsigned.ensures
-      ∙ high_half c.from.result c.from-2.result (2 ^ 31) (2 ^ 32 - 1)
-          (magnitude c.args.x c.cast_signed.result c.from.result c.cast_signed.ensures c.cast_signed.type_inv c.from.ensures)
-          (rw c.from-2.ensures (omega arith))
-          (lit< tt) (record { sfits = c.from.type_inv }) (record { sfits = c.from-2.type_inv })
-      ∙ rw (first, c.from-2.ensures) refl
+    ∙ high_half c.from.result c.from-2.result (2 ^ 31) (2 ^ 32 - 1)
+    (magnitude c.args.x c.cast_signed.result c.from.result c.cast_signed.ensures c.cast_signed.type_inv c.from.ensures)
+    (rw c.from-2.ensures (omega arith))
+    (lit< tt) (record { sfits = c.from.type_inv }) (record { sfits = c.from-2.type_inv })
+    ∙ rw (first, c.from-2.ensures) refl
