@@ -1,0 +1,4 @@
+pub mod FaultLaws
+pub mod Soundness
+pub mod SegmentLoop
+pub mod ImageLaws
