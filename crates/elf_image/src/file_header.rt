@@ -1,11 +1,13 @@
 //! The header at the front of a file.
 
-ghost use Rattle.std.specs.Prelude.{◌≡◌, ◌≤◌, ◌+◌, ◌*◌, ◌^◌, ◌<◌, length, OnOk, IfOk};
+ghost use Rattle.std.specs.Prelude.{◌≡◌, ◌≤◌, ◌+◌, ◌*◌, ◌^◌, ◌<◌, ◌++◌, length, OnOk, IfOk};
 ghost use Rattle.elf_image.specs.Fields.{file_header_at};
 ghost use Rattle.elf_image.specs.Faults.{Checks, size_rows, magic_rows, machine_rows, table_rows, file_rows};
+ghost use Rattle.elf_image.specs.Writing.{file_header, file_header_of};
 
 use crate::fault::{ElfFault, ReadElfNo, refuse_if};
-use crate::number::{half_at, word_at};
+use crate::number::{half_at, push_halves, push_words, word_at};
+use fsc_base::NoMemory;
 
 /// How many bytes it takes.
 pub const FILE_HEADER_BYTES: usize = 52;
@@ -17,16 +19,16 @@ const MOST_FILE_BYTES: usize = 0x8000_0000;
 const MOST_HEADERS: u16 = 64;
 
 /// What a file begins with: the name of the format, 32-bit, lowest byte first, version 1.
-pub const MAGIC: [u8; 7] = [0x7f, b'E', b'L', b'F', 1, 1, 1];
+const MAGIC: [u8; 7] = [0x7f, b'E', b'L', b'F', 1, 1, 1];
 
 /// The type of an executable file.
-pub const EXECUTABLE: u16 = 2;
+const EXECUTABLE: u16 = 2;
 
 /// The number of RISC-V among the machines.
-pub const RISC_V: u16 = 243;
+const RISC_V: u16 = 243;
 
 /// The version of the format.
-pub const VERSION: u32 = 1;
+const VERSION: u32 = 1;
 
 /// How many bytes a program header takes.
 pub const PROGRAM_HEADER_BYTES: u16 = 32;
@@ -135,5 +137,32 @@ impl FileHeader {
         refuse_if(self.header_size != PROGRAM_HEADER_BYTES, ElfFault::Header, 42)?;
         let end = u64::from(self.table) + 32 * u64::from(self.count);
         refuse_if(end > file_size as u64, ElfFault::Header, 28)
+    }
+    /// The header of an executable for RISC-V whose table of program headers stands behind it.
+    pub fn of(entry: u32, count: u16) -> FileHeader
+        ensures { result ≡ file_header_of entry count }
+    {
+        FileHeader {
+            kind: EXECUTABLE,
+            machine: RISC_V,
+            version: VERSION,
+            entry,
+            table: FILE_HEADER_BYTES as u32,
+            header_size: PROGRAM_HEADER_BYTES,
+            count,
+        }
+    }
+
+    /// Writes it at the end, with no flags and no table of sections.
+    #[tactic(auto, unfolding(crate::specs::Writing::file_header))]
+    pub fn push(&self, file: &mut Vec<u8>) -> Result<(), NoMemory>
+        ensures { OnOk result (file.new.items ≡ file.old.items ++ file_header self.now) }
+    {
+        file.extend_from_slice(&MAGIC)?;
+        file.extend_from_slice(&[0; 9])?;
+        push_halves(file, &[self.kind, self.machine])?;
+        push_words(file, &[self.version, self.entry, self.table, 0, 0])?;
+        let own_size = FILE_HEADER_BYTES as u16;
+        push_halves(file, &[own_size, self.header_size, self.count, 0, 0, 0])
     }
 }

@@ -1,18 +1,22 @@
 //! The headers that say where the segments stand.
 
-ghost use Rattle.std.specs.Prelude.{◌≡◌, ◌≤◌, ◌+◌, ◌^◌, ◌++◌, [], ◌∷◌, length, IsTrue, IfOk, OnOk};
+ghost use Rattle.std.specs.Prelude.{◌≡◌, ◌≤◌, ◌<◌, ◌+◌, ◌^◌, ◌++◌, [], ◌∷◌, length, IsTrue, IfOk, OnOk};
 ghost use Rattle.std.specs.List.{list_any};
 ghost use Rattle.fsc_base.specs.Image.{total_size};
 ghost use Rattle.elf_image.specs.Fields.{program_header_at, segment_of, loaded_segment, is_loaded};
 ghost use Rattle.elf_image.specs.Faults.{Checks, segment_row, is_overfull, passes_file, passes_memory, has_no_right, overlaps, is_too_much, is_unfit, is_faulty};
+ghost use Rattle.elf_image.specs.Writing.{program_header, program_header_of};
 
 use crate::fault::{ElfFault, ReadElfNo, refuse_if};
-use crate::number::word_at;
+use crate::number::{push_words, word_at};
 use fsc_base::{Bytes, NoMemory, Segment};
 use std::alloc::Global;
 
 /// The type of a header whose segment is loaded into memory.
-pub const LOADED: u32 = 1;
+const LOADED: u32 = 1;
+
+/// The bytes of each segment begin at a multiple of so many bytes in the file.
+pub const ALIGNMENT: usize = 16;
 
 /// The most bytes of memory that the segments of an image take together.
 const MOST_BYTES: u64 = 0x8000_0000;
@@ -171,5 +175,39 @@ impl ProgramHeader {
             segments.push(self.segment(alloc, file)?)?;
         }
         Ok(())
+    }
+    /// The header of a segment whose bytes begin at `offset` in the file.
+    pub fn of(segment: &Segment, offset: u32) -> ProgramHeader
+        requires { length segment.now.bytes < 2 ^ 32 }
+        ensures { result ≡ program_header_of offset segment.now }
+    {
+        ProgramHeader {
+            kind: LOADED,
+            offset,
+            address: segment.address,
+            file_size: segment.bytes.as_slice().len() as u32,
+            memory_size: segment.size,
+            flags: segment.flags,
+        }
+    }
+
+    /// Writes it at the end, with the address as the physical address too.
+    #[tactic(auto, unfolding(crate::specs::Writing::program_header))]
+    pub fn push(&self, file: &mut Vec<u8>) -> Result<(), NoMemory>
+        ensures { OnOk result (file.new.items ≡ file.old.items ++ program_header self.now) }
+    {
+        push_words(
+            file,
+            &[
+                self.kind,
+                self.offset,
+                self.address,
+                self.address,
+                self.file_size,
+                self.memory_size,
+                self.flags,
+                ALIGNMENT as u32,
+            ],
+        )
     }
 }
