@@ -1,10 +1,12 @@
 //! From files to images.
 
-ghost use Rattle.std.specs.Prelude.{◌≡◌, ◌≤◌, ◌+◌, ◌*◌, ◌^◌, ◌<◌, length, IfOk};
+ghost use Rattle.std.specs.Prelude.{◌≡◌, ◌≤◌, ◌+◌, ◌*◌, ◌^◌, ◌<◌, length, IfOk, Ok};
+ghost use Rattle.fsc_base.specs.declared.image.Image.{Image};
 ghost use Rattle.fsc_base.specs.Image.{IsSound};
 ghost use Rattle.elf_image.specs.Fields.{file_header_at};
 ghost use Rattle.elf_image.specs.Faults.{ReadsSegments};
 ghost use Rattle.elf_image.specs.Reading.{Gives, image_at};
+ghost use Rattle.elf_image.specs.Writing.{elf_of};
 
 use crate::fault::{ElfFault, ReadElfNo, refuse_if};
 use crate::file_header::FileHeader;
@@ -52,6 +54,8 @@ pub fn read_elf(alloc: Global, bytes: &[u8]) -> Result<Image, ReadElfNo>
     ensures exact { Gives result (image_at bytes.now) }
     // What is read can be run.
     ensures found { IfOk result (λ image. IsSound image) }
+    // What was written is read again.
+    ensures again { (image : Image) → IsSound image → image.entry < 2 ^ 32 → length (elf_of image) ≤ 2 ^ 31 → bytes.now ≡ elf_of image → Gives result (Ok image) }
 {
     image(alloc, bytes)
 }

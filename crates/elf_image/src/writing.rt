@@ -96,6 +96,7 @@ fn push_contents(file: &mut Vec<u8>, segments: &[Segment]) -> Result<(), NoMemor
 }
 
 /// Writes a sound image as an ELF-32 file.
+#[tactic(auto, using(crate::proofs::FileLaws::headers_length))]
 pub fn write_elf(alloc: Global, image: &Image) -> Result<Bytes, NoMemory>
     requires { IsSound image.now }
     ensures { IfOk result (λ file. file ≡ elf_of image.now) }
