@@ -8,7 +8,8 @@ use Rattle.elf_image.specs.declared.fault.ReadElfNo.{ReadElfNo}
 use Rattle.elf_image.specs.declared.fault.ReadElfNo.TheVariants.{Bad, NoMemory}
 use Rattle.elf_image.specs.declared.file_header.FileHeader.{FileHeader}
 use Rattle.elf_image.specs.Fields.{file_header_at, segments_before}
-use Rattle.elf_image.specs.Faults.{Row, first_fault, joined, file_rows, segment_rows, empty_rows, table_of, Refuses, RefusesUnlessFull}
+use Rattle.elf_image.specs.Checking.{Refuses, RefusesUnlessFull}
+use Rattle.elf_image.specs.Faults.{Row, first_fault, joined, file_rows, segment_rows, empty_rows, table_of}
 use Rattle.elf_image.specs.Reading.{image_at, image_of, unless, Gives}
 use Rattle.elf_image.proofs.FaultLaws.{after_none, after_some}
 use Rattle.elf_image.proofs.Soundness.{image_sound}
@@ -34,9 +35,9 @@ past_segments file header segments past =
     let count = (file_header_at file).count in
     let empty = empty_rows (segments_before file count) in
     rw (so_far, of_file)
-      (ap (λ (fault : Option ReadElfNo). unless fault (image_of file))
-        (after_none (file_rows file) (joined (others file)) past.header_clear
-          ∙ after_none (segment_rows file count) (joined (empty ∷ [])) clear))
+    (ap (λ (fault : Option ReadElfNo). unless fault (image_of file))
+    (after_none (file_rows file) (joined (others file)) past.header_clear
+    ∙ after_none (segment_rows file count) (joined (empty ∷ [])) clear))
 
 -- a fault of the file header
 pub header_refused : (file : List ℕ) (refusal : ReadElfNo) → Refuses (file_rows file) refusal → Gives (Err refusal) (image_at file)
@@ -54,8 +55,8 @@ segments_refused file header (Bad fault offset) of_file clear refused =
     let empty = empty_rows (segments_before file count) in
     let found = subst (λ (h : FileHeader). first_fault (segment_rows file h.count) ≡ Some (Bad fault offset)) of_file refused in
     ap (λ (found : Option ReadElfNo). unless found (image_of file))
-      (after_none (file_rows file) (joined (others file)) clear
-        ∙ after_some (segment_rows file count) (joined (empty ∷ [])) (Bad fault offset) found)
+    (after_none (file_rows file) (joined (others file)) clear
+    ∙ after_some (segment_rows file count) (joined (empty ∷ [])) (Bad fault offset) found)
 
 -- no segment
 pub empty_refused : (file : List ℕ) (header : FileHeader) (segments : List Segment) (refusal : ReadElfNo) → IsPastSegments file header segments → Refuses (empty_rows segments) refusal → Gives (Err refusal) (image_at file)

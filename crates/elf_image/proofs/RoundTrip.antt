@@ -1,5 +1,6 @@
 -- The file of a sound image is read as that image.
 use Rattle.std.proofs.Common.{◌≡◌, ℕ, zero, suc, ◌+◌, ◌-◌, ◌*◌, ◌%◌, ◌^◌, ◌<◌, ◌≤◌, ◌⊎◌, Bool, true, false, cond, ltb, eqb, ◌&&◌, ◌||◌, List, [], ◌∷◌, ◌++◌, length, take, drop, replicate, All, Option, Some, None, Result, Ok, Err, refl, sym, ap, subst, ◌∙◌, inl, inr, arith, append_assoc, add-zero, zero-add}
+use Rattle.std.specs.Prelude.{IfOk}
 use Rattle.std.specs.Int.{next_multiple_of}
 use Rattle.std.specs.List.{list_any}
 use Rattle.std.proofs.lemmas.Bool.{cases_Bool, and_left, and_right, or_from, le-ltb, lt-ltb, eqb-true, eqb-false, ne_eqb}
@@ -45,27 +46,27 @@ is_placed : (file front rest : List ℕ) (end : ℕ) (bytes : List ℕ) → file
 is_placed file front rest end bytes whole len =
     elim (cases_Bool (eqb (length bytes) 0)) [
       | inl none ↦
-        let empty : bytes ≡ [] = nil_from_length bytes (eqb-true _ _ none) in
-        record {
-          bytes_are = rw empty refl;
-          inside = rw empty (omega arith);
-          whole = whole ∙ sym (append_assoc front (placed end bytes) rest);
-          end_is = rw empty (rw (append-nil front) len);
-        }
+          let empty : bytes ≡ [] = nil_from_length bytes (eqb-true _ _ none) in
+          record {
+            bytes_are = rw empty refl;
+            inside = rw empty (omega arith);
+            whole = whole ∙ sym (append_assoc front (placed end bytes) rest);
+            end_is = rw empty (rw (append-nil front) len);
+          }
       | inr some ↦
-        let start = next_multiple_of end 16 in
-        let zeros : List ℕ = replicate (start - end) 0 in
-        let parts : file ≡ (front ++ zeros) ++ (bytes ++ rest) = (rw some at whole) ∙ ap (λ (x : List ℕ). front ++ x) (append_assoc zeros bytes rest) ∙ sym (append_assoc front zeros (bytes ++ rest)) in
-        let zeros_len : length zeros ≡ start - end = length-replicate (start - end) 0 in
-        let front_len : length (front ++ zeros) ≡ start = omega (arith, length-append front zeros, zeros_len) in
-        let behind : drop start file ≡ bytes ++ rest = ap (λ (x : List ℕ). drop start x) parts ∙ drop_at (front ++ zeros) (bytes ++ rest) start front_len in
-        let file_len : length file ≡ start + (length bytes + length rest) = omega (arith, ap length parts, length-append (front ++ zeros) (bytes ++ rest), length-append bytes rest, front_len) in
-        record {
-          bytes_are = rw (some, behind) (take_at bytes rest (length bytes) refl);
-          inside = rw some (omega (arith, file_len));
-          whole = whole ∙ sym (append_assoc front (placed end bytes) rest);
-          end_is = rw some (omega (arith, length-append front (zeros ++ bytes), length-append zeros bytes, zeros_len, len));
-        }
+          let start = next_multiple_of end 16 in
+          let zeros : List ℕ = replicate (start - end) 0 in
+          let parts : file ≡ (front ++ zeros) ++ (bytes ++ rest) = (rw some at whole) ∙ ap (λ (x : List ℕ). front ++ x) (append_assoc zeros bytes rest) ∙ sym (append_assoc front zeros (bytes ++ rest)) in
+          let zeros_len : length zeros ≡ start - end = length-replicate (start - end) 0 in
+          let front_len : length (front ++ zeros) ≡ start = omega (arith, length-append front zeros, zeros_len) in
+          let behind : drop start file ≡ bytes ++ rest = ap (λ (x : List ℕ). drop start x) parts ∙ drop_at (front ++ zeros) (bytes ++ rest) start front_len in
+          let file_len : length file ≡ start + (length bytes + length rest) = omega (arith, ap length parts, length-append (front ++ zeros) (bytes ++ rest), length-append bytes rest, front_len) in
+          record {
+            bytes_are = rw (some, behind) (take_at bytes rest (length bytes) refl);
+            inside = rw some (omega (arith, file_len));
+            whole = whole ∙ sym (append_assoc front (placed end bytes) rest);
+            end_is = rw some (omega (arith, length-append front (zeros ++ bytes), length-append zeros bytes, zeros_len, len));
+          }
     ]
 
 fits_program : (offset : ℕ) (segment : Segment) → IsSoundSegment segment → offset < 2 ^ 32 → segment.size < 2 ^ 32 → FitsProgram (program_header_of offset segment)
@@ -90,13 +91,14 @@ stand file before behind front index end (segment ∷ others) headers before_len
     let fits = fits_program offset segment (All-head IsSoundSegment segment others sound) (omega (arith, here.inside)) (omega (arith, sum)) in
     let parts : file ≡ before ++ (program_header header ++ rest) = headers ∙ ap (λ (x : List ℕ). before ++ x) (append_assoc (program_header header) (program_headers (end_of end segment.bytes) others) behind) in
     let after : file ≡ (before ++ program_header header) ++ rest = parts ∙ sym (append_assoc before (program_header header) rest) in
-    let after_len : length (before ++ program_header header) ≡ 52 + 32 * suc index = omega (arith, length-append before (program_header header), length-program_header header) in
-    (record {
-      header = ap (λ (x : List ℕ). program_header_at x (52 + 32 * index)) parts ∙ program_header_again before header rest (52 + 32 * index) before_len fits;
-      bytes = here.bytes_are;
-      inside = here.inside;
-    },
-      stand file (before ++ program_header header) behind (front ++ placed end segment.bytes) (suc index) (end_of end segment.bytes) others after after_len here.whole here.end_is short (omega (arith, sum)) (All-tail IsSoundSegment segment others sound))
+    let after_len : length (before ++ program_header header) ≡ 52 + 32 * suc index = omega (arith, length-append before (program_header header), length-program_header header) in (
+      record {
+        header = ap (λ (x : List ℕ). program_header_at x (52 + 32 * index)) parts ∙ program_header_again before header rest (52 + 32 * index) before_len fits;
+        bytes = here.bytes_are;
+        inside = here.inside;
+      },
+      stand file (before ++ program_header header) behind (front ++ placed end segment.bytes) (suc index) (end_of end segment.bytes) others after after_len here.whole here.end_is short (omega (arith, sum)) (All-tail IsSoundSegment segment others sound),
+    )
 
 -- segments that are apart are so from one that stands behind them
 apart_from : (before : List Segment) (segment : Segment) (others : List Segment) → AllApart (before ++ segment ∷ others) → (header : ProgramHeader) → header.address ≡ segment.address → header.memory_size ≡ segment.size → All (λ other. overlaps header other ≡ false) before
@@ -230,8 +232,8 @@ elf_stands image sound short =
     let header : List ℕ = file_header (file_header_of image.entry count) in
     let headers : List ℕ = program_headers (headers_size count) image.segments in
     stand (elf_of image) header (contents (headers_size count) image.segments) (header ++ headers) 0 (headers_size count) image.segments
-      (elf_front image) (length-file_header (file_header_of image.entry count)) refl (headers_length (file_header_of image.entry count) (headers_size count) image.segments)
-      short sound.bounded sound.each
+    (elf_front image) (length-file_header (file_header_of image.entry count)) refl (headers_length (file_header_of image.entry count) (headers_size count) image.segments)
+    short sound.bounded sound.each
 
 -- what is written is read again
 pub image_again : (image : Image) → IsSound image → image.entry < 2 ^ 32 → length (elf_of image) ≤ 2 ^ 31 → image_at (elf_of image) ≡ Ok image
@@ -251,3 +253,10 @@ image_again image sound entry short =
       so_far = sym to_end.so_far;
     } in
     image_made file (file_header_of image.entry count) image.segments past (rw (ne_eqb count 0 (λ e. omega (arith, sound.some))) refl)
+
+-- the same for what a function wrote
+pub written_again : {E : Type 0} → (image : Image) (result : Result (List ℕ) E) → IsSound image → IfOk result (λ file. file ≡ elf_of image) → IfOk result (λ _. image.entry < 2 ^ 32) → IfOk result (λ file. length file ≤ 2 ^ 31 → image_at file ≡ Ok image)
+written_again image (Ok file) sound exact entry = λ short.
+    let written_short : length (elf_of image) ≤ 2 ^ 31 = rw (← exact) short in
+    ap image_at exact ∙ image_again image sound entry written_short
+written_again image (Err refusal) sound exact entry = tt

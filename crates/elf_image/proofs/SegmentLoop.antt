@@ -6,7 +6,8 @@ use Rattle.fsc_base.specs.declared.image.Segment.{Segment}
 use Rattle.elf_image.specs.declared.fault.ReadElfNo.{ReadElfNo}
 use Rattle.elf_image.specs.declared.fault.ReadElfNo.TheVariants.{Bad, NoMemory}
 use Rattle.elf_image.specs.Fields.{segments_before, place_of}
-use Rattle.elf_image.specs.Faults.{first_fault, segment_row, segment_rows, Refuses, RefusesUnlessFull}
+use Rattle.elf_image.specs.Checking.{Refuses, RefusesUnlessFull}
+use Rattle.elf_image.specs.Faults.{first_fault, segment_row, segment_rows}
 use Rattle.elf_image.proofs.FaultLaws.{after_none, after_some}
 
 -- one more program header

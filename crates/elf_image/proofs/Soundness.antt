@@ -101,9 +101,10 @@ sound_before file (suc index) none =
     let header = program_header_at file place in
     let p = none_parts (segment_rows file index) (segment_row file (segments_before file index) place ∷ []) none in
     let before = sound_before file index p.0 in
-    let good = holds_not (is_loaded header && is_faulty (length file) (segments_before file index) header) (Bad OfSegment place) p.1 in
-    (sound_step file (segments_before file index) header before.0 good,
-      few_more (is_loaded header) (segments_before file index) (segment_of file header) index before.1)
+    let good = holds_not (is_loaded header && is_faulty (length file) (segments_before file index) header) (Bad OfSegment place) p.1 in (
+      sound_step file (segments_before file index) header before.0 good,
+      few_more (is_loaded header) (segments_before file index) (segment_of file header) index before.1,
+    )
 
 -- their memory
 pub bounded_before : (file : List ℕ) (count : ℕ) → first_fault (segment_rows file count) ≡ None → total_size (segments_before file count) ≤ 2 ^ 31

@@ -1,18 +1,17 @@
--- The table of faults. The fault of a file is that of the first row that holds.
-use Rattle.std.specs.Prelude.{◌≡◌, ℕ, zero, suc, ◌+◌, ◌*◌, ◌%◌, ◌^◌, List, [], ◌∷◌, ◌++◌, map, length, slice_index, Option, Some, None, Result, Ok, Err, Bool, not, nat_lt, ◌==◌, ◌&&◌, ◌||◌, if◌then◌else◌}
-use Rattle.std.specs.Global.{Vec}
+-- The table of faults, in its order.
+use Rattle.std.specs.Prelude.{ℕ, zero, suc, ◌+◌, ◌*◌, ◌%◌, ◌^◌, List, [], ◌∷◌, ◌++◌, map, length, slice_index, Option, Some, None, Bool, not, nat_lt, ◌==◌, ◌&&◌, ◌||◌, if◌then◌else◌}
 use Rattle.std.specs.List.{list_any, enumerate_from}
 use Rattle.fsc_base.specs.declared.image.Segment.{Segment}
 use Rattle.fsc_base.specs.Image.{total_size}
 use Rattle.elf_image.specs.declared.fault.ElfFault.{ElfFault}
 use Rattle.elf_image.specs.declared.fault.ElfFault.TheVariants.{Short, Magic, Machine, Header, Segment as OfSegment}
 use Rattle.elf_image.specs.declared.fault.ReadElfNo.{ReadElfNo}
-use Rattle.elf_image.specs.declared.fault.ReadElfNo.TheVariants.{Bad, NoMemory}
+use Rattle.elf_image.specs.declared.fault.ReadElfNo.TheVariants.{Bad}
 use Rattle.elf_image.specs.declared.file_header.FileHeader.{FileHeader}
 use Rattle.elf_image.specs.declared.program_header.ProgramHeader.{ProgramHeader}
-use Rattle.elf_image.specs.Fields.{file_header_at, program_header_at, is_loaded, segments_before, place_of}
+use Rattle.elf_image.specs.Fields.{magic, file_header_at, program_header_at, is_loaded, segments_before, place_of}
 
--- a fault, whether the file has it, and the offset that is told
+-- a fault, whether it is there, and the offset that is told with it
 pub record Row : Type 0 where
   pub fault : ElfFault
   pub holds : Bool
@@ -32,10 +31,6 @@ size_rows file =
     row Short (nat_lt (length file) 52) (length file)
     ∷ row Header (nat_lt (2 ^ 31) (length file)) 0
     ∷ []
-
--- 7f, ELF, 32-bit, lowest byte first, version 1
-abbrev pub magic : List ℕ
-magic = 127 ∷ 69 ∷ 76 ∷ 70 ∷ 1 ∷ 1 ∷ 1 ∷ []
 
 -- a byte at the front is another
 abbrev pub magic_rows : List ℕ → List Row
@@ -118,28 +113,8 @@ file_rows file =
     let header = file_header_at file in
     joined (size_rows file ∷ magic_rows file ∷ machine_rows header ∷ table_rows (length file) header ∷ [])
 
--- the whole table
+-- the whole table. The fault of a file is that of the first row that holds.
 unfoldable pub table_of : List ℕ → List Row
 table_of file =
     let count = (file_header_at file).count in
     joined (file_rows file ∷ segment_rows file count ∷ empty_rows (segments_before file count) ∷ [])
-
--- a refusal is that of the first row that holds
-abbrev pub Refuses : List Row → ReadElfNo → Type 0
-Refuses rows NoMemory = ⊥
-Refuses rows (Bad fault offset) = first_fault rows ≡ Some (Bad fault offset)
-
--- what a function returns that checks these rows, and allocates nothing
-abbrev pub Checks : {A : Type 0} → List Row → Result A ReadElfNo → Type 0
-Checks rows (Ok _) = first_fault rows ≡ None
-Checks rows (Err refusal) = Refuses rows refusal
-
--- the same, unless memory ran out
-abbrev pub RefusesUnlessFull : List Row → ReadElfNo → Type 0
-RefusesUnlessFull rows NoMemory = Unit {0}
-RefusesUnlessFull rows (Bad fault offset) = first_fault rows ≡ Some (Bad fault offset)
-
--- what a function returns that reads the segments of the first so many program headers
-abbrev pub ReadsSegments : List ℕ → ℕ → Result (Vec Segment) ReadElfNo → Type 0
-ReadsSegments file count (Ok segments) = (first_fault (segment_rows file count) ≡ None) × (segments.items ≡ segments_before file count)
-ReadsSegments file count (Err refusal) = RefusesUnlessFull (segment_rows file count) refusal

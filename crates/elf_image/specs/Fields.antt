@@ -13,6 +13,10 @@ half_at file place = little_number 2 (drop place file)
 unfoldable pub word_at : List ℕ → ℕ → ℕ
 word_at file place = little_number 4 (drop place file)
 
+-- what a file begins with: 7f, ELF, 32-bit, lowest byte first, version 1
+abbrev pub magic : List ℕ
+magic = 127 ∷ 69 ∷ 76 ∷ 70 ∷ 1 ∷ 1 ∷ 1 ∷ []
+
 -- the header at the front of the file
 abbrev pub file_header_at : List ℕ → FileHeader
 file_header_at file = record {

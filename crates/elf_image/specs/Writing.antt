@@ -7,7 +7,7 @@ use Rattle.fsc_base.specs.declared.image.Segment.{Segment}
 use Rattle.fsc_base.specs.declared.image.Image.{Image}
 use Rattle.elf_image.specs.declared.file_header.FileHeader.{FileHeader}
 use Rattle.elf_image.specs.declared.program_header.ProgramHeader.{ProgramHeader}
-use Rattle.elf_image.specs.Faults.{magic}
+use Rattle.elf_image.specs.Fields.{magic}
 
 -- a number in two bytes, the lowest first
 abbrev pub half : ℕ → List ℕ
@@ -35,7 +35,7 @@ file_header_of entry count = record {
   count = count;
 }
 
--- a file header: no table of sections, no flags, its own size, and nothing more of sections
+-- a file header, with no flags and no sections; 52 is its own size
 unfoldable pub file_header : FileHeader → List ℕ
 file_header header =
     magic
@@ -57,17 +57,7 @@ program_header_of offset segment = record {
 
 -- a program header: the physical address is the address, and the alignment 16
 unfoldable pub program_header : ProgramHeader → List ℕ
-program_header header =
-    words
-      (header.kind
-        ∷ header.offset
-        ∷ header.address
-        ∷ header.address
-        ∷ header.file_size
-        ∷ header.memory_size
-        ∷ header.flags
-        ∷ 16
-        ∷ [])
+program_header header = words (header.kind ∷ header.offset ∷ header.address ∷ header.address ∷ header.file_size ∷ header.memory_size ∷ header.flags ∷ 16 ∷ [])
 
 -- where bytes begin that stand behind `end` others: at the next multiple of 16, or at 0 where there are none
 abbrev pub start_of : ℕ → List ℕ → ℕ
@@ -77,7 +67,7 @@ start_of end bytes = if length bytes == 0 then 0 else next_multiple_of end 16
 abbrev pub end_of : ℕ → List ℕ → ℕ
 end_of end bytes = if length bytes == 0 then end else next_multiple_of end 16 + length bytes
 
--- they, with zeros before them
+-- these bytes, with zeros before them
 abbrev pub placed : ℕ → List ℕ → List ℕ
 placed end bytes = if length bytes == 0 then [] else replicate (next_multiple_of end 16 - end) 0 ++ bytes
 

@@ -2,12 +2,13 @@
 
 ghost use Rattle.std.specs.Prelude.{◌≡◌, [], ◌∷◌};
 ghost use Rattle.elf_image.specs.declared.fault.ReadElfNo.TheVariants.{NoMemory};
-ghost use Rattle.elf_image.specs.Faults.{Checks, row};
+ghost use Rattle.elf_image.specs.Checking.{Checks};
+ghost use Rattle.elf_image.specs.Faults.{row};
 
 use fsc_base::NoMemory;
 use std::alloc::{AllocError, AllocFailed};
 
-/// What is wrong with a file.
+/// What is wrong with a file. `read_elf` says when each comes, and with which offset.
 #[derive(Clone, Copy, Debug, PartialEq, Eq)]
 pub enum ElfFault {
     /// It has fewer bytes than a file header.
@@ -16,16 +17,16 @@ pub enum ElfFault {
     Magic,
     /// It isn't an executable for RISC-V.
     Machine,
-    /// It has too many bytes, another version, or a table of program headers that isn't within it.
+    /// It has too many bytes, another version, or no table of 1 to 64 program headers within it.
     Header,
-    /// A segment is not within the file or not one that can be loaded, or there is none.
+    /// It has a segment that no image can have beside those before it, or none.
     Segment,
 }
 
 /// Why `read_elf` refuses.
 #[derive(Clone, Copy, Debug, PartialEq, Eq)]
 pub enum ReadElfNo {
-    /// The bytes are no image: the first fault that they have, and the place in the file that shows it, in bytes.
+    /// The bytes are no image. This is their first fault, and the place in the file that shows it, in bytes.
     Bad { fault: ElfFault, offset: u32 },
     /// No memory was left for the image.
     NoMemory,
@@ -55,7 +56,7 @@ impl<T: Drop> From<AllocFailed<T>> for ReadElfNo {
     }
 }
 
-/// One row of the table of faults: refuses where it is `broken`.
+/// Refuses with this fault and offset where a rule is `broken`.
 pub fn refuse_if(broken: bool, fault: ElfFault, offset: u32) -> Result<(), ReadElfNo>
     ensures { Checks (row fault broken offset ∷ []) result }
 {

@@ -2,7 +2,8 @@
 
 ghost use Rattle.std.specs.Prelude.{◌≡◌, ◌≤◌, ◌+◌, ◌*◌, ◌^◌, ◌<◌, ◌++◌, length, OnOk, IfOk};
 ghost use Rattle.elf_image.specs.Fields.{file_header_at};
-ghost use Rattle.elf_image.specs.Faults.{Checks, size_rows, magic_rows, machine_rows, table_rows, file_rows};
+ghost use Rattle.elf_image.specs.Checking.{Checks};
+ghost use Rattle.elf_image.specs.Faults.{size_rows, magic_rows, machine_rows, table_rows, file_rows};
 ghost use Rattle.elf_image.specs.Writing.{file_header, file_header_of};
 
 use crate::fault::{ElfFault, ReadElfNo, refuse_if};
@@ -27,7 +28,7 @@ const EXECUTABLE: u16 = 2;
 /// The number of RISC-V among the machines.
 const RISC_V: u16 = 243;
 
-/// The version of the format.
+/// The one version of the format.
 const VERSION: u32 = 1;
 
 /// How many bytes a program header takes.
@@ -36,8 +37,11 @@ pub const PROGRAM_HEADER_BYTES: u16 = 32;
 /// The fields of a file header that are read.
 #[derive(Clone, Copy, Debug)]
 pub struct FileHeader {
+    /// What the file is for.
     pub kind: u16,
+    /// The machine that it is for.
     pub machine: u16,
+    /// The version of the format.
     pub version: u32,
     /// The address of the first instruction.
     pub entry: u32,
@@ -92,7 +96,7 @@ impl FileHeader {
         }
     }
 
-    /// The header of a file, unless the first fault is one of it.
+    /// The header of a file, or the fault of the first rule that the file breaks, up to those of the header.
     #[tactic(auto, unfolding(crate::specs::Faults::file_rows), using(crate::proofs::FaultLaws::after_none, crate::proofs::FaultLaws::after_some))]
     pub fn checked(file: &[u8]) -> Result<FileHeader, ReadElfNo>
         ensures exact { Checks (file_rows file.now) result }
@@ -133,8 +137,16 @@ impl FileHeader {
         ensures within { OnOk result (self.now.table + 32 * self.now.count ≤ file_size) }
     {
         refuse_if(self.version != VERSION, ElfFault::Header, 20)?;
-        refuse_if(self.count == 0 || self.count > MOST_HEADERS, ElfFault::Header, 44)?;
-        refuse_if(self.header_size != PROGRAM_HEADER_BYTES, ElfFault::Header, 42)?;
+        refuse_if(
+            self.count == 0 || self.count > MOST_HEADERS,
+            ElfFault::Header,
+            44,
+        )?;
+        refuse_if(
+            self.header_size != PROGRAM_HEADER_BYTES,
+            ElfFault::Header,
+            42,
+        )?;
         let end = u64::from(self.table) + 32 * u64::from(self.count);
         refuse_if(end > file_size as u64, ElfFault::Header, 28)
     }

@@ -1,4 +1,5 @@
-//! Images as ELF-32 files for RISC-V, written and read exactly. The format is that of the System V ABI, ELF-32.
+//! Images as files for RISC-V in the format of the System V ABI, ELF-32. An image has one file, and a file is read as one
+//! image or refused with its first fault.
 #![tactic(auto)]
 
 mod fault;

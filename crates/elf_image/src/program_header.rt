@@ -1,10 +1,11 @@
-//! The headers that say where the segments stand.
+//! The headers that say where the segments are.
 
 ghost use Rattle.std.specs.Prelude.{◌≡◌, ◌≤◌, ◌<◌, ◌+◌, ◌^◌, ◌++◌, [], ◌∷◌, length, IsTrue, IfOk, OnOk};
 ghost use Rattle.std.specs.List.{list_any};
 ghost use Rattle.fsc_base.specs.Image.{total_size};
 ghost use Rattle.elf_image.specs.Fields.{program_header_at, segment_of, loaded_segment, is_loaded};
-ghost use Rattle.elf_image.specs.Faults.{Checks, segment_row, is_overfull, passes_file, passes_memory, has_no_right, overlaps, is_too_much, is_unfit, is_faulty};
+ghost use Rattle.elf_image.specs.Checking.{Checks};
+ghost use Rattle.elf_image.specs.Faults.{segment_row, is_overfull, passes_file, passes_memory, has_no_right, overlaps, is_too_much, is_unfit, is_faulty};
 ghost use Rattle.elf_image.specs.Writing.{program_header, program_header_of};
 
 use crate::fault::{ElfFault, ReadElfNo, refuse_if};
@@ -15,7 +16,7 @@ use std::alloc::Global;
 /// The type of a header whose segment is loaded into memory.
 const LOADED: u32 = 1;
 
-/// The bytes of each segment begin at a multiple of so many bytes in the file.
+/// In a file that is written the bytes of each segment begin at a multiple of this.
 pub const ALIGNMENT: usize = 16;
 
 /// The most bytes of memory that the segments of an image take together.
@@ -24,6 +25,7 @@ const MOST_BYTES: u64 = 0x8000_0000;
 /// The fields of a program header that are read.
 #[derive(Clone, Copy, Debug)]
 pub struct ProgramHeader {
+    /// What the segment is for.
     pub kind: u32,
     /// Where the segment's bytes begin in the file.
     pub offset: u32,
@@ -141,9 +143,7 @@ impl ProgramHeader {
         requires { total_size before.now ≤ 2 ^ 31 }
         ensures { result ≡ is_faulty file_size before.now self.now }
     {
-        self.is_unfit(file_size)
-            || self.overlaps_one_of(before)
-            || self.is_too_much(before)
+        self.is_unfit(file_size) || self.overlaps_one_of(before) || self.is_too_much(before)
     }
 
     /// Its segment, with a copy of its bytes.

@@ -1,8 +1,9 @@
 //! From images to files.
 
-ghost use Rattle.std.specs.Prelude.{◌≡◌, ◌≤◌, ◌<◌, ◌+◌, ◌*◌, ◌^◌, ◌++◌, length, All, OnOk, IfOk, [], ◌∷◌};
+ghost use Rattle.std.specs.Prelude.{◌≡◌, ◌≤◌, ◌<◌, ◌+◌, ◌*◌, ◌^◌, ◌++◌, length, All, OnOk, IfOk, Ok};
 ghost use Rattle.std.specs.Int.{next_multiple_of};
 ghost use Rattle.fsc_base.specs.Image.{IsSound, IsSoundSegment, total_size};
+ghost use Rattle.elf_image.specs.Reading.{image_at};
 ghost use Rattle.elf_image.specs.Writing.{start_of, end_of, placed, headers_size, program_headers, contents, elf_of};
 
 use crate::file_header::{FILE_HEADER_BYTES, FileHeader, PROGRAM_HEADER_BYTES};
@@ -95,11 +96,12 @@ fn push_contents(file: &mut Vec<u8>, segments: &[Segment]) -> Result<(), NoMemor
     Ok(())
 }
 
-/// Writes a sound image as an ELF-32 file.
+/// The file of an image.
 #[tactic(auto, using(crate::proofs::FileLaws::headers_length))]
-pub fn write_elf(alloc: Global, image: &Image) -> Result<Bytes, NoMemory>
+fn file_of(alloc: Global, image: &Image) -> Result<Bytes, NoMemory>
     requires { IsSound image.now }
-    ensures { IfOk result (λ file. file ≡ elf_of image.now) }
+    ensures exact { IfOk result (λ file. file ≡ elf_of image.now) }
+    ensures entry { IfOk result (λ _. image.now.entry < 2 ^ 32) }
 {
     let segments = image.segments.as_slice();
     let mut file = Vec::with_capacity(alloc, file_size(segments))?;
@@ -107,4 +109,17 @@ pub fn write_elf(alloc: Global, image: &Image) -> Result<Bytes, NoMemory>
     push_program_headers(&mut file, segments)?;
     push_contents(&mut file, segments)?;
     Ok(Bytes::from_vec(file))
+}
+
+/// The file of an image, an executable for RISC-V: a file header of 52 bytes, a program header of 32 bytes for each
+/// segment in their order, and each segment's bytes that has any, at the next multiple of 16, with zeros between. Nothing
+/// stands behind the last byte. Refused only for want of memory.
+pub fn write_elf(alloc: Global, image: &Image) -> Result<Bytes, NoMemory>
+    requires { IsSound image.now }
+    // These bytes and no others.
+    ensures exact { IfOk result (λ file. file ≡ elf_of image.now) }
+    // They are read as that image, if they are few enough to be read.
+    ensures again { IfOk result (λ file. length file ≤ 2 ^ 31 → image_at file ≡ Ok image.now) }
+{
+    file_of(alloc, image)
 }

@@ -2,7 +2,8 @@ use Rattle.std.proofs.Common.{◌≡◌, Bool, List, [], ◌∷◌, length, None
 use Rattle.std.specs.Prelude.{◌==◌}
 use Rattle.fsc_base.specs.declared.image.Segment.{Segment}
 use Rattle.elf_image.specs.declared.fault.ElfFault.TheVariants.{Segment as OfSegment}
-use Rattle.elf_image.specs.Faults.{first_fault, row, Refuses}
+use Rattle.elf_image.specs.Checking.{Refuses}
+use Rattle.elf_image.specs.Faults.{first_fault, row}
 use Rattle.std.proofs.lemmas.Result.{err_from_is_err_and}
 use Rattle.elf_image.proofs.ImageLaws.{IsPastSegments, header_refused, segments_refused, empty_refused, image_made}
 use Rattle.elf_image.proofs.reading.image.Goals as goal

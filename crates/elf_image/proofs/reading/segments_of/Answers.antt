@@ -9,4 +9,4 @@ returns-in_err-found c =
     let p = err_from_is_err_and c.from_residual.result c.from_residual.ensures.1 in
     let same_place = c.place_of-place.ensures ∙ ap (λ (h : FileHeader). h.table + 32 * c.loop-index.index) c.requires.of_file in
     rw (p.1, p.2) (fault_ends c.args.file.now c.args.header.now.count c.loop-index.index c.deref.result.now c.place_of-place.result c.in_err-found.field-0.0
-      c.loop-index-test.true c.loop-index.invariant.clear (c.deref.ensures.value ∙ c.loop-index.invariant.so_far) same_place c.in_err-found.ensures.exact)
+    c.loop-index-test.true c.loop-index.invariant.clear (c.deref.ensures.value ∙ c.loop-index.invariant.so_far) same_place c.in_err-found.ensures.exact)
