@@ -10,8 +10,11 @@ use crate::fault::{ElfFault, ReadElfNo, refuse_if};
 use crate::number::{half_at, push_halves, push_words, word_at};
 use fsc_base::NoMemory;
 
-/// How many bytes it takes.
-pub const FILE_HEADER_BYTES: usize = 52;
+/// How many bytes a file header takes.
+pub const FILE_HEADER_BYTES: u16 = 52;
+
+/// How many bytes a program header takes.
+pub const PROGRAM_HEADER_BYTES: u16 = 32;
 
 /// The most bytes of a file that is read.
 const MOST_FILE_BYTES: usize = 0x8000_0000;
@@ -30,9 +33,6 @@ const RISC_V: u16 = 243;
 
 /// The one version of the format.
 const VERSION: u32 = 1;
-
-/// How many bytes a program header takes.
-pub const PROGRAM_HEADER_BYTES: u16 = 32;
 
 /// The fields of a file header that are read.
 #[derive(Clone, Copy, Debug)]
@@ -59,7 +59,7 @@ fn check_size(file: &[u8]) -> Result<(), ReadElfNo>
     ensures within { OnOk result (52 ≤ length file.now) }
     ensures most { OnOk result (length file.now ≤ 2 ^ 31) }
 {
-    if file.len() < FILE_HEADER_BYTES {
+    if file.len() < usize::from(FILE_HEADER_BYTES) {
         return Err(ReadElfNo::Bad {
             fault: ElfFault::Short,
             offset: file.len() as u32,
@@ -113,12 +113,42 @@ impl FileHeader {
         Ok(header)
     }
 
+    /// The header of an executable for RISC-V whose table of program headers stands behind it.
+    pub fn of(entry: u32, count: u16) -> FileHeader
+        ensures { result ≡ file_header_of entry count }
+    {
+        FileHeader {
+            kind: EXECUTABLE,
+            machine: RISC_V,
+            version: VERSION,
+            entry,
+            table: u32::from(FILE_HEADER_BYTES),
+            header_size: PROGRAM_HEADER_BYTES,
+            count,
+        }
+    }
+
+    /// Writes it at the end, with no flags and no table of sections.
+    #[tactic(auto, unfolding(crate::specs::Writing::file_header))]
+    pub fn push(&self, file: &mut Vec<u8>) -> Result<(), NoMemory>
+        ensures { OnOk result (file.new.items ≡ file.old.items ++ file_header self.now) }
+    {
+        file.extend_from_slice(&MAGIC)?;
+        file.extend_from_slice(&[0; 9])?;
+        push_halves(file, &[self.kind, self.machine])?;
+        push_words(file, &[self.version, self.entry, self.table, 0, 0])?;
+        push_halves(
+            file,
+            &[FILE_HEADER_BYTES, self.header_size, self.count, 0, 0, 0],
+        )
+    }
+
     /// Where the program header of an index begins in the file.
     pub fn place_of(&self, index: u16) -> u32
         requires { self.now.table + 32 * index < 2 ^ 32 }
         ensures { result ≡ self.now.table + 32 * index }
     {
-        self.table + 32 * u32::from(index)
+        self.table + u32::from(PROGRAM_HEADER_BYTES) * u32::from(index)
     }
 
     /// Refuses what is no executable for RISC-V.
@@ -147,34 +177,7 @@ impl FileHeader {
             ElfFault::Header,
             42,
         )?;
-        let end = u64::from(self.table) + 32 * u64::from(self.count);
+        let end = u64::from(self.table) + u64::from(PROGRAM_HEADER_BYTES) * u64::from(self.count);
         refuse_if(end > file_size as u64, ElfFault::Header, 28)
-    }
-    /// The header of an executable for RISC-V whose table of program headers stands behind it.
-    pub fn of(entry: u32, count: u16) -> FileHeader
-        ensures { result ≡ file_header_of entry count }
-    {
-        FileHeader {
-            kind: EXECUTABLE,
-            machine: RISC_V,
-            version: VERSION,
-            entry,
-            table: FILE_HEADER_BYTES as u32,
-            header_size: PROGRAM_HEADER_BYTES,
-            count,
-        }
-    }
-
-    /// Writes it at the end, with no flags and no table of sections.
-    #[tactic(auto, unfolding(crate::specs::Writing::file_header))]
-    pub fn push(&self, file: &mut Vec<u8>) -> Result<(), NoMemory>
-        ensures { OnOk result (file.new.items ≡ file.old.items ++ file_header self.now) }
-    {
-        file.extend_from_slice(&MAGIC)?;
-        file.extend_from_slice(&[0; 9])?;
-        push_halves(file, &[self.kind, self.machine])?;
-        push_words(file, &[self.version, self.entry, self.table, 0, 0])?;
-        let own_size = FILE_HEADER_BYTES as u16;
-        push_halves(file, &[own_size, self.header_size, self.count, 0, 0, 0])
     }
 }

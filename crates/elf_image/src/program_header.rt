@@ -69,6 +69,72 @@ impl ProgramHeader {
         Ok(header)
     }
 
+    /// The header of a segment whose bytes begin at `offset` in the file.
+    pub fn of(segment: &Segment, offset: u32) -> ProgramHeader
+        requires { length segment.now.bytes < 2 ^ 32 }
+        ensures { result ≡ program_header_of offset segment.now }
+    {
+        ProgramHeader {
+            kind: LOADED,
+            offset,
+            address: segment.address,
+            file_size: segment.bytes.as_slice().len() as u32,
+            memory_size: segment.size,
+            flags: segment.flags,
+        }
+    }
+
+    /// Writes it at the end, with the address as the physical address too.
+    #[tactic(auto, unfolding(crate::specs::Writing::program_header))]
+    pub fn push(&self, file: &mut Vec<u8>) -> Result<(), NoMemory>
+        ensures { OnOk result (file.new.items ≡ file.old.items ++ program_header self.now) }
+    {
+        push_words(
+            file,
+            &[
+                self.kind,
+                self.offset,
+                self.address,
+                self.address,
+                self.file_size,
+                self.memory_size,
+                self.flags,
+                ALIGNMENT as u32,
+            ],
+        )
+    }
+
+    /// Adds its segment to those before it, if it is loaded.
+    pub fn add_segment(
+        &self,
+        alloc: Global,
+        file: &[u8],
+        segments: &mut Vec<Segment>,
+    ) -> Result<(), NoMemory>
+        requires { IsTrue (is_loaded self.now) → self.now.offset + self.now.file_size ≤ length file.now }
+        ensures { OnOk result (segments.new.items ≡ segments.old.items ++ loaded_segment file.now self.now) }
+    {
+        if self.is_loaded() {
+            segments.push(self.segment(alloc, file)?)?;
+        }
+        Ok(())
+    }
+
+    /// Its segment, with a copy of its bytes.
+    fn segment(&self, alloc: Global, file: &[u8]) -> Result<Segment, NoMemory>
+        requires { self.now.offset + self.now.file_size ≤ length file.now }
+        ensures { IfOk result (λ segment. segment ≡ segment_of file.now self.now) }
+    {
+        let start = self.offset as usize;
+        let end = start + self.file_size as usize;
+        Ok(Segment {
+            address: self.address,
+            size: self.memory_size,
+            flags: self.flags % 8,
+            bytes: Bytes::from_slice(alloc, &file[start..end])?,
+        })
+    }
+
     /// Whether its segment is part of the image: it is loaded, and takes memory.
     fn is_loaded(&self) -> bool
         ensures { result ≡ is_loaded self.now }
@@ -144,70 +210,5 @@ impl ProgramHeader {
         ensures { result ≡ is_faulty file_size before.now self.now }
     {
         self.is_unfit(file_size) || self.overlaps_one_of(before) || self.is_too_much(before)
-    }
-
-    /// Its segment, with a copy of its bytes.
-    fn segment(&self, alloc: Global, file: &[u8]) -> Result<Segment, NoMemory>
-        requires { self.now.offset + self.now.file_size ≤ length file.now }
-        ensures { IfOk result (λ segment. segment ≡ segment_of file.now self.now) }
-    {
-        let start = self.offset as usize;
-        let end = start + self.file_size as usize;
-        Ok(Segment {
-            address: self.address,
-            size: self.memory_size,
-            flags: self.flags % 8,
-            bytes: Bytes::from_slice(alloc, &file[start..end])?,
-        })
-    }
-
-    /// Adds its segment to those before it, if it is loaded.
-    pub fn add_segment(
-        &self,
-        alloc: Global,
-        file: &[u8],
-        segments: &mut Vec<Segment>,
-    ) -> Result<(), NoMemory>
-        requires { IsTrue (is_loaded self.now) → self.now.offset + self.now.file_size ≤ length file.now }
-        ensures { OnOk result (segments.new.items ≡ segments.old.items ++ loaded_segment file.now self.now) }
-    {
-        if self.is_loaded() {
-            segments.push(self.segment(alloc, file)?)?;
-        }
-        Ok(())
-    }
-    /// The header of a segment whose bytes begin at `offset` in the file.
-    pub fn of(segment: &Segment, offset: u32) -> ProgramHeader
-        requires { length segment.now.bytes < 2 ^ 32 }
-        ensures { result ≡ program_header_of offset segment.now }
-    {
-        ProgramHeader {
-            kind: LOADED,
-            offset,
-            address: segment.address,
-            file_size: segment.bytes.as_slice().len() as u32,
-            memory_size: segment.size,
-            flags: segment.flags,
-        }
-    }
-
-    /// Writes it at the end, with the address as the physical address too.
-    #[tactic(auto, unfolding(crate::specs::Writing::program_header))]
-    pub fn push(&self, file: &mut Vec<u8>) -> Result<(), NoMemory>
-        ensures { OnOk result (file.new.items ≡ file.old.items ++ program_header self.now) }
-    {
-        push_words(
-            file,
-            &[
-                self.kind,
-                self.offset,
-                self.address,
-                self.address,
-                self.file_size,
-                self.memory_size,
-                self.flags,
-                ALIGNMENT as u32,
-            ],
-        )
     }
 }

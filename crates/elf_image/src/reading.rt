@@ -68,7 +68,8 @@ pub fn read_elf(alloc: Global, bytes: &[u8]) -> Result<Image, ReadElfNo>
     // What is read is sound.
     ensures found { IfOk result (λ image. IsSound image) }
     // What was written for an image is read as that image.
-    ensures again { (image : Image) → IsSound image → image.entry < 2 ^ 32 → length (elf_of image) ≤ 2 ^ 31 → bytes.now ≡ elf_of image → Gives result (Ok image) }
+    ensures again { (image : Image) → IsSound image → image.entry < 2 ^ 32 → length (elf_of image) ≤ 2 ^ 31
+        → bytes.now ≡ elf_of image → Gives result (Ok image) }
 {
     image(alloc, bytes)
 }

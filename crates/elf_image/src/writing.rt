@@ -40,7 +40,7 @@ fn headers_size(count: usize) -> usize
     requires { count ≤ 64 }
     ensures { result ≡ headers_size count }
 {
-    FILE_HEADER_BYTES + PROGRAM_HEADER_BYTES as usize * count
+    usize::from(FILE_HEADER_BYTES) + usize::from(PROGRAM_HEADER_BYTES) * count
 }
 
 /// How many bytes the file of these segments has.
@@ -48,7 +48,8 @@ fn file_size(segments: &[Segment]) -> usize
     requires few { length segments.now ≤ 64 }
     requires bounded { total_size segments.now ≤ 2 ^ 31 }
     requires each { All IsSoundSegment segments.now }
-    ensures { let end = headers_size (length segments.now) in result ≡ end + length (contents end segments.now) }
+    ensures { let end = headers_size (length segments.now) in
+        result ≡ end + length (contents end segments.now) }
 {
     let mut end = headers_size(segments.len());
     for segment in segments {
@@ -62,7 +63,8 @@ fn push_program_headers(file: &mut Vec<u8>, segments: &[Segment]) -> Result<(), 
     requires few { length segments.now ≤ 64 }
     requires bounded { total_size segments.now ≤ 2 ^ 31 }
     requires each { All IsSoundSegment segments.now }
-    ensures { OnOk result (file.new.items ≡ file.old.items ++ program_headers (headers_size (length segments.now)) segments.now) }
+    ensures { let end = headers_size (length segments.now) in
+        OnOk result (file.new.items ≡ file.old.items ++ program_headers end segments.now) }
 {
     let mut end = headers_size(segments.len());
     for segment in segments {
