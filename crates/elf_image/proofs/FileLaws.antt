@@ -1,5 +1,5 @@
 -- What stands where in a written file.
-use Rattle.std.proofs.Common.{◌≡◌, ℕ, zero, suc, ◌+◌, ◌-◌, ◌*◌, ◌^◌, ◌<◌, ◌≤◌, List, [], ◌∷◌, ◌++◌, length, take, drop, None, refl, sym, ap, ◌∙◌, arith}
+use Rattle.std.proofs.Common.{◌≡◌, ℕ, ◌+◌, ◌*◌, ◌^◌, ◌<◌, List, [], ◌∷◌, ◌++◌, length, drop, None, refl, sym, ap, ◌∙◌, arith}
 use Rattle.std.proofs.lemmas.List.{length-append, drop-drop, drop_at}
 use Rattle.byteorder.specs.Endian.{little_number}
 use Rattle.byteorder.specs.Numbers.{little_number-reads_back}
@@ -8,7 +8,7 @@ use Rattle.elf_image.specs.declared.file_header.FileHeader.{FileHeader}
 use Rattle.elf_image.specs.declared.program_header.ProgramHeader.{ProgramHeader}
 use Rattle.elf_image.specs.Fields.{half_at, word_at, file_header_at, program_header_at}
 use Rattle.elf_image.specs.Faults.{first_fault, magic_rows}
-use Rattle.elf_image.specs.Writing.{file_header, program_header, program_header_of, start_of, end_of, program_headers, contents, headers_size}
+use Rattle.elf_image.specs.Writing.{file_header, program_header, program_header_of, start_of, end_of, program_headers, headers_size}
 
 pub length-file_header : (header : FileHeader) → length (file_header header) ≡ 52
 unfolding file_header

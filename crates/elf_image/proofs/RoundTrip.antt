@@ -1,11 +1,11 @@
 -- The file of a sound image is read as that image.
-use Rattle.std.proofs.Common.{◌≡◌, ℕ, zero, suc, ◌+◌, ◌-◌, ◌*◌, ◌%◌, ◌^◌, ◌<◌, ◌≤◌, ◌⊎◌, Bool, true, false, cond, ltb, eqb, ◌&&◌, ◌||◌, List, [], ◌∷◌, ◌++◌, length, take, drop, replicate, All, Option, Some, None, Result, Ok, Err, refl, sym, ap, subst, ◌∙◌, inl, inr, arith, append_assoc, add-zero, zero-add}
+use Rattle.std.proofs.Common.{◌≡◌, ℕ, suc, ◌+◌, ◌-◌, ◌*◌, ◌%◌, ◌^◌, ◌<◌, ◌≤◌, true, false, cond, eqb, ◌&&◌, List, [], ◌∷◌, ◌++◌, length, take, drop, replicate, All, Some, None, Result, Ok, Err, refl, sym, ap, subst, ◌∙◌, inl, inr, arith, append_assoc, add-zero, zero-add}
 use Rattle.std.specs.Prelude.{IfOk}
 use Rattle.std.specs.Int.{next_multiple_of}
 use Rattle.std.specs.List.{list_any}
-use Rattle.std.proofs.lemmas.Bool.{cases_Bool, and_left, and_right, or_from, le-ltb, lt-ltb, eqb-true, eqb-false, ne_eqb}
+use Rattle.std.proofs.lemmas.Bool.{cases_Bool, and_left, and_right, le-ltb, lt-ltb, eqb-true, ne_eqb}
 use Rattle.std.proofs.lemmas.List.{length-append, length-replicate, append-nil, nil_from_length, take_at, drop_at, get_or_at}
-use Rattle.std.proofs.lemmas.List.Elements.{All-nil, All-cons, All-head, All-tail, All-append, All-from_get_or}
+use Rattle.std.proofs.lemmas.List.Elements.{All-nil, All-cons, All-head, All-tail}
 use Rattle.std.proofs.lemmas.List.Folds.{list_any_none}
 use Rattle.std.proofs.lemmas.List.Sums.{sum_by-append, sum_by-cons}
 use Rattle.fsc_base.specs.declared.image.Segment.{Segment}
@@ -17,7 +17,7 @@ use Rattle.elf_image.specs.declared.fault.ReadElfNo.TheVariants.{Bad}
 use Rattle.elf_image.specs.declared.file_header.FileHeader.{FileHeader}
 use Rattle.elf_image.specs.declared.program_header.ProgramHeader.{ProgramHeader}
 use Rattle.elf_image.specs.Fields.{file_header_at, program_header_at, segment_of, is_loaded, loaded_segment, place_of, segments_before}
-use Rattle.elf_image.specs.Faults.{Row, first_fault, file_rows, segment_row, segment_rows, size_rows, magic_rows, machine_rows, table_rows, joined, is_overfull, passes_file, passes_memory, has_no_right, is_unfit, overlaps, is_too_much, is_faulty}
+use Rattle.elf_image.specs.Faults.{first_fault, file_rows, segment_row, segment_rows, size_rows, magic_rows, machine_rows, table_rows, joined, is_overfull, passes_file, passes_memory, has_no_right, overlaps, is_too_much, is_faulty}
 use Rattle.elf_image.specs.Reading.{image_at}
 use Rattle.elf_image.specs.Writing.{file_header, file_header_of, program_header, program_header_of, start_of, end_of, placed, program_headers, contents, headers_size, elf_of}
 use Rattle.elf_image.proofs.FaultLaws.{after_none}

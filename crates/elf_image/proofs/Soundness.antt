@@ -1,5 +1,5 @@
 -- An image that is read is sound.
-use Rattle.std.proofs.Common.{◌≡◌, ℕ, zero, suc, ◌+◌, ◌*◌, ◌%◌, ◌^◌, ◌<◌, ◌≤◌, ◌⊎◌, Bool, true, false, cond, ltb, eqb, ◌&&◌, ◌||◌, List, [], ◌∷◌, ◌++◌, length, take, drop, All, Option, Some, None, Result, Ok, Err, refl, sym, ap, subst, ◌∙◌, inl, inr, arith}
+use Rattle.std.proofs.Common.{◌≡◌, ℕ, zero, suc, ◌+◌, ◌%◌, ◌^◌, ◌≤◌, Bool, true, false, cond, ltb, eqb, ◌&&◌, ◌||◌, List, [], ◌∷◌, ◌++◌, length, drop, All, Option, Some, None, Ok, refl, subst, inl, inr, arith}
 use Rattle.std.specs.List.{list_any}
 use Rattle.std.proofs.lemmas.Bool.{cases_Bool, and_cases, and_parts, or_parts, ltb-true, ltb-false, eqb-false}
 use Rattle.std.proofs.lemmas.List.{length-take, length-append, append-nil}
@@ -14,7 +14,7 @@ use Rattle.elf_image.specs.declared.fault.ReadElfNo.TheVariants.{Bad}
 use Rattle.std.proofs.lemmas.Bool.Decides.{nat_tests}
 use Rattle.elf_image.specs.declared.program_header.ProgramHeader.{ProgramHeader}
 use Rattle.elf_image.specs.Fields.{file_header_at, program_header_at, segment_of, is_loaded, place_of, segments_before}
-use Rattle.elf_image.specs.Faults.{Row, first_fault, file_rows, segment_row, segment_rows, table_of, empty_rows, size_rows, magic_rows, machine_rows, table_rows, joined, is_overfull, passes_file, passes_memory, has_no_right, is_unfit, overlaps, is_too_much, is_faulty}
+use Rattle.elf_image.specs.Faults.{first_fault, file_rows, segment_row, segment_rows, table_of, empty_rows, size_rows, magic_rows, machine_rows, table_rows, joined, is_overfull, passes_file, passes_memory, has_no_right, is_unfit, overlaps, is_too_much, is_faulty}
 use Rattle.elf_image.specs.Reading.{image_at, image_of, unless}
 use Rattle.elf_image.proofs.FaultLaws.{none_parts}
 

@@ -1,4 +1,4 @@
-use Rattle.std.proofs.Common.{Result, ap, subst, sym, ◌∙◌}
+use Rattle.std.proofs.Common.{Result, ap, subst, ◌∙◌}
 use Rattle.fsc_base.specs.declared.image.Image.{Image}
 use Rattle.elf_image.specs.declared.fault.ReadElfNo.{ReadElfNo}
 use Rattle.elf_image.specs.Reading.{Gives, image_at}

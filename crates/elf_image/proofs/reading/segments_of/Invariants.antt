@@ -1,5 +1,4 @@
-use Rattle.std.proofs.Common.{◌≡◌, ◌≤◌, ◌^◌, None}
-use Rattle.fsc_base.specs.Image.{total_size}
+use Rattle.std.proofs.Common.{◌≡◌, None}
 use Rattle.elf_image.specs.Fields.{segments_before}
 use Rattle.elf_image.specs.Faults.{first_fault, segment_rows}
 use Rattle.elf_image.proofs.reading.segments_of.Given as goal
