@@ -1,0 +1,5 @@
+pub mod Fields
+pub mod Faults
+pub mod Checking
+pub mod Reading
+pub mod Writing
