@@ -78,8 +78,8 @@ read_call_counts s =
     let filled_counts : Counts s.count takes = λ bytes. ap (λ (n : ℕ). n + 1) (with_register_counts (with_filled s bytes) 10 (length bytes)) in
     let covered = cond (covers s.memory Write (value_of s 11) (value_of s 12)) takes (Traps trap.Store) in
     choice_counts s.count (eqb (value_of s 10) 0) covered (Traps trap.Call)
-      (choice_counts s.count (covers s.memory Write (value_of s 11) (value_of s 12)) takes (Traps trap.Store) filled_counts tt)
-      tt
+    (choice_counts s.count (covers s.memory Write (value_of s 11) (value_of s 12)) takes (Traps trap.Store) filled_counts tt)
+    tt
 
 written_counts : (s : State) (bytes : Option (List ℕ)) → Counts s.count (written s bytes)
 written_counts s None = tt

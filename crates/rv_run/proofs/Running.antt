@@ -125,7 +125,7 @@ unfolding image_run
 ended_whole whole m s new before now after given stop known so_far is counts same =
     let left : LeavesInput before.left now.left so_far.rest = leaves before.left now.left given so_far.rest whole.asked known so_far.told in
     let said : whole ≡ asking_first so_far.asked (writing_first so_far.front (ending s so_far.rest stop)) =
-        so_far.run ∙ ap (λ (r : ImageRun). asking_first so_far.asked (writing_first so_far.front r)) is in
+    so_far.run ∙ ap (λ (r : ImageRun). asking_first so_far.asked (writing_first so_far.front r)) is in
     rw (said, counts, same) (refl, refl, rw append-nil so_far.wrote, left)
 
 -- the sink refused what the next instruction writes
@@ -136,7 +136,7 @@ cut_short whole m s before now after given (Goes bytes t) is so_far cut =
     let later = (image_run m t so_far.rest).written in
     let one : image_run (suc m) s so_far.rest ≡ writing_first bytes (image_run m t so_far.rest) = rw is refl in
     let said : whole.written ≡ so_far.front ++ (bytes ++ later) =
-        ap (λ (r : ImageRun). r.written) (so_far.run ∙ ap (λ (r : ImageRun). asking_first so_far.asked (writing_first so_far.front r)) one) in
+    ap (λ (r : ImageRun). r.written) (so_far.run ∙ ap (λ (r : ImageRun). asking_first so_far.asked (writing_first so_far.front r)) one) in
     rw said (appends_front_then before.written now.written after.written so_far.front (bytes ++ later) so_far.wrote (appends_front_longer now.written after.written bytes later cut.1))
 cut_short whole m s before now after given (Takes k f) is so_far cut = absurd cut
 cut_short whole m s before now after given (Exits status) is so_far cut = absurd cut

@@ -80,7 +80,7 @@ IsCutShort (Traps kind) before after = ⊥
 abbrev pub IsReadCut : Action → (old new : State) (before after : Streams) → Type 0
 IsReadCut (Takes n t) old new before after =
     (bytes : List ℕ) × (new ≡ counted (with_filled old bytes)) × TakesFront bytes before.left after.left × (length bytes ≤ n)
-      × (after.written ≡ before.written)
+    × (after.written ≡ before.written)
 IsReadCut (Goes bytes t) old new before after = ⊥
 IsReadCut (Exits status) old new before after = ⊥
 IsReadCut (Stops kind block offset width) old new before after = ⊥

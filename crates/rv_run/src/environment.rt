@@ -124,7 +124,12 @@ impl Machine {
         let offset = self.registers[12];
         let width = self.registers[13];
         if 1 <= kind && kind <= LAST_KIND {
-            self.end(Stop::StopCall { kind, block, offset, width })
+            self.end(Stop::StopCall {
+                kind,
+                block,
+                offset,
+                width,
+            })
         } else {
             self.trap(TrapKind::Call)
         }

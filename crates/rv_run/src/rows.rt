@@ -15,7 +15,11 @@ fn extend8(value: u8) -> u32
     ensures { result ≡ sign_extended 8 value }
 {
     let value = u32::from(value);
-    if value < 0x80 { value } else { value + 0xffff_ff00 }
+    if value < 0x80 {
+        value
+    } else {
+        value + 0xffff_ff00
+    }
 }
 
 /// A half word, read as signed, in 32 bits.
@@ -23,7 +27,11 @@ fn extend16(value: u16) -> u32
     ensures { result ≡ sign_extended 16 value }
 {
     let value = u32::from(value);
-    if value < 0x8000 { value } else { value + 0xffff_0000 }
+    if value < 0x8000 {
+        value
+    } else {
+        value + 0xffff_0000
+    }
 }
 
 /// The trap of a refused load.

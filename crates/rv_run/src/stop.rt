@@ -35,7 +35,10 @@ pub enum Stop {
     /// As many instructions ran as were asked for.
     Steps,
     /// The machine has no row for the instruction at this pc.
-    Trap { kind: TrapKind, pc: u32 },
+    Trap {
+        kind: TrapKind,
+        pc: u32,
+    },
     /// The input failed.
     ReadFault,
     /// The output refused a write.

@@ -8,7 +8,9 @@ ghost use Rattle.rv_run.specs.ImageRun.{MeetsRow};
 use crate::machine::Machine;
 use crate::registers::Done;
 use crate::stop::TrapKind;
-use rv_arith::{add, div, divu, mul, mulh, mulhsu, mulhu, rem, remu, sll, slt, sltu, sra, srl, sub};
+use rv_arith::{
+    add, div, divu, mul, mulh, mulhsu, mulhu, rem, remu, sll, slt, sltu, sra, srl, sub,
+};
 use rv_isa::Inst;
 
 /// An immediate of format U, which stands for the upper bits.
@@ -33,12 +35,30 @@ impl Machine {
             Inst::Auipc { rd, imm } => self.give(rd, add(self.pc, upper(imm))),
             Inst::Jal { rd, imm } => return self.link(rd, self.offset(imm)),
             Inst::Jalr { rd, rs1, imm } => return self.link(rd, self.sum(rs1, imm) & !1),
-            Inst::Beq { rs1, rs2, imm } => return self.branch(self.value(rs1) == self.value(rs2), imm),
-            Inst::Bne { rs1, rs2, imm } => return self.branch(self.value(rs1) != self.value(rs2), imm),
-            Inst::Blt { rs1, rs2, imm } => return self.branch(self.value(rs1).cast_signed() < self.value(rs2).cast_signed(), imm),
-            Inst::Bge { rs1, rs2, imm } => return self.branch(self.value(rs1).cast_signed() >= self.value(rs2).cast_signed(), imm),
-            Inst::Bltu { rs1, rs2, imm } => return self.branch(self.value(rs1) < self.value(rs2), imm),
-            Inst::Bgeu { rs1, rs2, imm } => return self.branch(self.value(rs1) >= self.value(rs2), imm),
+            Inst::Beq { rs1, rs2, imm } => return self.branch(
+                self.value(rs1) == self.value(rs2),
+                imm,
+            ),
+            Inst::Bne { rs1, rs2, imm } => return self.branch(
+                self.value(rs1) != self.value(rs2),
+                imm,
+            ),
+            Inst::Blt { rs1, rs2, imm } => return self.branch(
+                self.value(rs1).cast_signed() < self.value(rs2).cast_signed(),
+                imm,
+            ),
+            Inst::Bge { rs1, rs2, imm } => return self.branch(
+                self.value(rs1).cast_signed() >= self.value(rs2).cast_signed(),
+                imm,
+            ),
+            Inst::Bltu { rs1, rs2, imm } => return self.branch(
+                self.value(rs1) < self.value(rs2),
+                imm,
+            ),
+            Inst::Bgeu { rs1, rs2, imm } => return self.branch(
+                self.value(rs1) >= self.value(rs2),
+                imm,
+            ),
             Inst::Lb { rd, rs1, imm } => return self.lb(rd, rs1, imm),
             Inst::Lh { rd, rs1, imm } => return self.lh(rd, rs1, imm),
             Inst::Lw { rd, rs1, imm } => return self.lw(rd, rs1, imm),
@@ -49,7 +69,10 @@ impl Machine {
             Inst::Sw { rs1, rs2, imm } => return self.sw(rs1, rs2, imm),
             Inst::Addi { rd, rs1, imm } => self.addi(rd, rs1, imm),
             Inst::Slti { rd, rs1, imm } => self.give(rd, slt(self.value(rs1), imm.cast_unsigned())),
-            Inst::Sltiu { rd, rs1, imm } => self.give(rd, sltu(self.value(rs1), imm.cast_unsigned())),
+            Inst::Sltiu { rd, rs1, imm } => self.give(
+                rd,
+                sltu(self.value(rs1), imm.cast_unsigned()),
+            ),
             Inst::Xori { rd, rs1, imm } => self.give(rd, self.value(rs1) ^ imm.cast_unsigned()),
             Inst::Ori { rd, rs1, imm } => self.give(rd, self.value(rs1) | imm.cast_unsigned()),
             Inst::Andi { rd, rs1, imm } => self.give(rd, self.value(rs1) & imm.cast_unsigned()),
@@ -68,7 +91,10 @@ impl Machine {
             Inst::And { rd, rs1, rs2 } => self.give(rd, self.value(rs1) & self.value(rs2)),
             Inst::Mul { rd, rs1, rs2 } => self.give(rd, mul(self.value(rs1), self.value(rs2))),
             Inst::Mulh { rd, rs1, rs2 } => self.give(rd, mulh(self.value(rs1), self.value(rs2))),
-            Inst::Mulhsu { rd, rs1, rs2 } => self.give(rd, mulhsu(self.value(rs1), self.value(rs2))),
+            Inst::Mulhsu { rd, rs1, rs2 } => self.give(
+                rd,
+                mulhsu(self.value(rs1), self.value(rs2)),
+            ),
             Inst::Mulhu { rd, rs1, rs2 } => self.give(rd, mulhu(self.value(rs1), self.value(rs2))),
             Inst::Div { rd, rs1, rs2 } => self.give(rd, div(self.value(rs1), self.value(rs2))),
             Inst::Divu { rd, rs1, rs2 } => self.give(rd, divu(self.value(rs1), self.value(rs2))),
