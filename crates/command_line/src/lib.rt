@@ -1,0 +1,15 @@
+//! The command lines of the program, read by clap.
+#![tactic(auto)]
+
+mod arguments;
+mod asking;
+mod matching;
+mod names;
+mod refusal;
+mod request;
+
+pub use asking::request_of;
+pub use names::Names;
+pub use refusal::WordsNo;
+pub use request::Request;
+
