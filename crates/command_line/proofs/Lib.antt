@@ -1,3 +1,5 @@
 pub mod Reading
 pub mod Holding
 pub mod TextLemmas
+pub mod Turns
+pub mod Forms

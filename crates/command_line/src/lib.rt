@@ -13,3 +13,6 @@ pub use names::Names;
 pub use refusal::WordsNo;
 pub use request::Request;
 
+
+#[cfg(test)]
+mod tests;
