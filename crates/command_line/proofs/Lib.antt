@@ -2,4 +2,4 @@ pub mod Reading
 pub mod Holding
 pub mod TextLemmas
 pub mod Turns
-pub mod Forms
+pub mod FormLaws

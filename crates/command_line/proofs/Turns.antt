@@ -40,8 +40,8 @@ no_fault_option s id word h bare = flagless s word h bare
 
 -- the word takes the walk on without a fault
 pub record Turn (s : Shape) (w : Walk) (word : Text) (after : Walk) : Type 0 where
-  fault : turn_fault s [] w word ≡ []
-  walk : walked s.rules [] w word ≡ after
+  pub fault : turn_fault s [] w word ≡ []
+  pub walk : walked s.rules [] w word ≡ after
 
 -- a walk that is at rest between two words, and one that waits for the value of an option
 abbrev pub resting : Held → ℕ → Walk

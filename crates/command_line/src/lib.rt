@@ -3,12 +3,14 @@
 
 mod arguments;
 mod asking;
+mod forms;
 mod matching;
 mod names;
 mod refusal;
 mod request;
 
 pub use asking::request_of;
+pub use forms::{go_forms, run_forms};
 pub use names::Names;
 pub use refusal::WordsNo;
 pub use request::Request;
