@@ -1,17 +1,17 @@
 -- What a parse found for each argument of a command that is fit.
-use Rattle.std.proofs.Common.{◌≡◌, ◌≢◌, ◌⊎◌, ◌∙◌, ◌<◌, ◌≤◌, ◌&&◌, ◌||◌, not, ap, ℕ, Bool, true, false, true≢false, zero, suc, List, [], ◌∷◌, length, map, is_some, Option, Some, None, Result, Ok, Err, IfErr, IsErrAnd, refl, sym, subst, inl, inr, arith}
+use Rattle.std.proofs.Common.{◌≡◌, ◌≢◌, ◌⊎◌, ◌∙◌, ◌<◌, ◌≤◌, ◌==◌, ◌&&◌, ◌||◌, not, ap, ℕ, Bool, true, false, true≢false, zero, suc, List, [], ◌∷◌, length, map, is_some, Option, Some, None, Result, Ok, Err, IfErr, IsErrAnd, refl, sym, subst, inl, inr, arith}
 use Rattle.std.specs.List.{All, Any, list_all, list_any, slice_index_or}
 use Rattle.std.specs.Str.{bytes_eq}
 use Rattle.std.specs.Prelude.{codes, option_map, slice_get, unwrap_or}
 use Rattle.std.specs.Borrow.{Bor}
 use Rattle.std.proofs.lemmas.List.Elements.{All-get_or}
 use Rattle.std.proofs.lemmas.Slice.Eq.{bytes_eq-Decides}
-use Rattle.clap.specs.Facts.{args_of, groups_of, IsParsed, Entry, EntryPasses, ValuesPass, PassesArg, HasReading, least_values, parser_of, parser_of_value}
-use Rattle.clap.specs.Built.{IsPlain, IsPlainArg, IsParsedFrom, IsAuto, SameRules}
-use Rattle.clap.specs.Matches.{matched_of, first_value, one_text, found_of}
+use Rattle.clap.specs.Facts.{args_of, groups_of, IsParsed, Entry, EntryPasses, ValuesPass, PassesArg, HasReading, MayBeEmpty, parser_of, parser_of_value, unwrap_or_range}
+use Rattle.clap.specs.Built.{BuildsOrBreaks, BuildsTo, IsPlain, IsPlainArg, IsParsedFrom, IsAuto, SameRules, is_broken}
+use Rattle.clap.specs.Matches.{matched_of, first_value, has_subcommand, one_text, found_of}
 use Rattle.clap.specs.Faults.{has_free_rules}
-use Rattle.clap.specs.Simple.{App, HasReadyLeaves, IsSimple, Shape, app_of, is_ready, is_ready_leaf, shape_of}
-use Rattle.clap.specs.Walk.{Rule, Text, is_empty, rule_of}
+use Rattle.clap.specs.Simple.{App, HasReadyLeaves, IsSimple, Shape, app_of, built, is_buildable, is_ready, is_ready_leaf, shape_of}
+use Rattle.clap.specs.Walk.{Rule, Text, is_empty, is_simple_arg, rule_of}
 use Rattle.clap.specs.Values.{Accepts, read_as, reading_of}
 use Rattle.clap.specs.Words.{HasKind, Kinds, is_simple, is_simple_and_free, kind_of}
 use Rattle.clap.specs.declared.error.Error.{Error}
@@ -19,19 +19,19 @@ use Rattle.clap.specs.declared.error.kind.ErrorKind.TheVariants.{OutOfMemory}
 use Rattle.clap.specs.declared.builder.value_parser.Reading.{Reading}
 use Rattle.clap.specs.declared.builder.value_parser.ValueParser.{ValueParser}
 use Rattle.clap.specs.declared.builder.arg.Arg.{Arg}
-use Rattle.clap.specs.declared.builder.action.ArgAction.TheVariants.{Set}
+use Rattle.clap.specs.declared.builder.action.ArgAction.TheVariants.{Set, Count}
 use Rattle.clap.specs.declared.builder.command.Command.{Command}
 use Rattle.clap.specs.declared.builder.command.Command.TheViews.{out-Command}
 use Rattle.clap.specs.declared.parser.matches.ArgMatches.{ArgMatches}
 use Rattle.clap.specs.declared.parser.matches.Found.{Found}
 use Rattle.clap.specs.declared.parser.matches.MatchedArg.{MatchedArg}
-use Rattle.clap.proofs.CallerLemmas.{entry_by_id, present_has_entry, required_has_value, required_present, same_rules_by_id}
+use Rattle.clap.proofs.CallerLemmas.{entry_by_id, present_has_entry, required_present, same_rules_by_id}
 use Rattle.clap.proofs.SimpleLemmas.{is_nil, is_false, ready_simple, simple_groups}
 use Rattle.clap.proofs.TakesLemmas.{each_rule, free_arg}
 use Rattle.clap.proofs.WalkLemmas.{both}
 use Rattle.command_line.specs.declared.refusal.WordsNo.{WordsNo}
 use Rattle.command_line.specs.declared.refusal.WordsNo.TheVariants.{Usage}
-use Rattle.command_line.specs.Matching.{AreRead, IsRead, are_distinct, ids_of, is_fit, is_own_id}
+use Rattle.command_line.specs.Matching.{AreRead, IsRead, are_distinct, counts, gives_required, gives_values, ids_of, is_fit, is_loose, is_own_id}
 
 -- ---- the value of an entry
 
@@ -175,6 +175,106 @@ not_auto : (a : Arg) → is_own_id a.id.now ≡ true → IsAuto a → ⊥
 not_auto a h (inl e) = true≢false (sym h ∙ ap is_own_id e)
 not_auto a h (inr e) = true≢false (sym h ∙ ap is_own_id e)
 
+-- ---- values of required arguments
+
+rule_here : (p : Rule → Bool) (xs : List Arg) (k : ℕ) (d : Arg) → k < length xs → p (rule_of (slice_index_or xs k d)) ≡ true → list_any p (map rule_of xs) ≡ true
+rule_here p [] k d lt e = absurd (omega arith)
+rule_here p (x ∷ xs) zero d lt e = rw e refl
+rule_here p (x ∷ xs) (suc k) d lt e = go (p (rule_of x)) (rule_here p xs k d (omega arith) e)
+  where
+    go : (b : Bool) → list_any p (map rule_of xs) ≡ true → (b || list_any p (map rule_of xs)) ≡ true
+    go true h = refl
+    go false h = h
+
+abbrev is_loose_one : Text → Rule → Bool
+is_loose_one id other = bytes_eq other.id id && is_loose other
+
+loose_here : (c : Command) (id : Text) (any : Any (λ a. (bytes_eq a.id.now id ≡ true) × (is_loose (rule_of a) ≡ true)) (args_of c))
+    → list_any (is_loose_one id) (map rule_of (args_of c)) ≡ true
+loose_here c id any =
+    rule_here (is_loose_one id) (args_of c) any.0 any.1 any.2
+    (ap (λ (a : Arg). is_loose_one id (rule_of a)) any.3 ∙ rw (any.4.0, any.4.1) refl)
+
+or_right : (a b : Bool) → b ≡ true → (a || b) ≡ true
+or_right true b e = refl
+or_right false b e = e
+
+left_true : (a b : Bool) → a ≡ true → (a || b) ≡ true
+left_true true b e = refl
+left_true false b e = absurd (true≢false (sym e))
+
+delimited : (a : Arg) → is_some a.val_delim ≡ true → not (is_simple_arg a) ≡ true
+delimited a some = go (is_simple_arg a) refl
+  where
+    go : (simple : Bool) → is_simple_arg a ≡ simple → not simple ≡ true
+    go false e = refl
+    go true e =
+        let p = both (is_empty a.overrides.items) _ e in
+        let q = both (is_empty a.default_vals_ifs.items) _ p.1 in
+        let r = both (is_empty a.groups.items) _ q.1 in
+        let s = both (not (is_some a.val_delim)) _ r.1 in
+        absurd (true_of_not (is_some a.val_delim) s.0 some)
+
+none_loose : (a : Arg) → MayBeEmpty a → is_loose (rule_of a) ≡ true
+none_loose a (inl none) = rw none refl
+none_loose a (inr delimiter) =
+    or_right ((unwrap_or_range a.num_vals).start_inclusive == 0) (not (is_simple_arg a) || counts (unwrap_or a.action Set)) (left_true _ _ (delimited a delimiter))
+
+count_loose : (a : Arg) → unwrap_or a.action Set ≡ Count → is_loose (rule_of a) ≡ true
+count_loose a counted = or_right _ _ (or_right _ _ (ap counts counted))
+
+first_some : (xs : List (Bor (List ℕ))) → 0 < length xs → is_some (option_map (λ s. s.now) (slice_get xs 0)) ≡ true
+first_some [] lt = absurd (omega arith)
+first_some (x ∷ xs) lt = refl
+
+-- an entry of an id that no loose argument has holds a value
+has_value : (c : Command) (f : Found) (id : Text) → ValuesPass c f → groups_of c ≡ [] → (id ≡ [] → ⊥)
+    → list_any (is_loose_one id) (map rule_of (args_of c)) ≡ false → is_some (matched_of f id) ≡ true → is_some (first_value f id) ≡ true
+has_value c f id values no_groups named tight some = go (matched_of f id) refl some
+  where
+    loose : Any (λ a. (bytes_eq a.id.now id ≡ true) × (is_loose (rule_of a) ≡ true)) (args_of c) → ⊥
+    loose any = true≢false (sym (loose_here c id any) ∙ tight)
+
+    go : (o : Option MatchedArg) → matched_of f id ≡ o → is_some (matched_of f id) ≡ true → is_some (first_value f id) ≡ true
+    go None e some = cc
+    go (Some x) e some =
+        let got = entry_by_id (EntryPasses c) f.entries.items id x values e in
+        let same_x : got.0.1 ≡ x = got.1 in
+        let key_id : got.0.0.now ≡ id = (bytes_eq-Decides got.0.0.now id).0 got.2 in
+        elim got.3.1 [
+          | inl h ↦ elim h.1 [
+            | inl empty ↦ absurd (named (sym key_id ∙ empty))
+            | inr has ↦
+                let bad : 0 < 0 = rw no_groups at has in
+                absurd (omega arith)
+          ]
+          | inr (inl v) ↦ rw e (first_some x.vals.items (rw same_x at v))
+          | inr (inr (inl h)) ↦
+              let any = h.1 in
+              absurd (loose (any.0, any.1, any.2, any.3, (rw key_id at any.4.0, count_loose any.1 any.4.1)))
+          | inr (inr (inr any)) ↦ absurd (loose (any.0, any.1, any.2, any.3, (rw key_id at any.4.0, none_loose any.1 any.4.1)))
+        ]
+
+-- the tests hold of the command as it was built
+values_kept : (old new : Command) → gives_required (app_of old) ≡ true → is_simple (app_of old) ≡ true
+    → (app_of new ≡ app_of old) ⊎ (is_buildable (app_of old) ≡ true → app_of new ≡ built (app_of old))
+    → gives_values (app_of old).top.rules (app_of new).top.rules ≡ true
+values_kept old new gives simple (inl same) =
+    ap (λ (a : App). gives_values (app_of old).top.rules a.top.rules) same ∙ (both (gives_values (app_of old).top.rules (app_of old).top.rules) _ gives).0
+values_kept old new gives simple (inr made) =
+    ap (λ (a : App). gives_values (app_of old).top.rules a.top.rules) (made (both (is_buildable (app_of old)) _ simple).0)
+    ∙ (both (gives_values (app_of old).top.rules (app_of old).top.rules) _ gives).1
+
+tight_at : (old new : Command) (k : ℕ) (d : Arg) → gives_values (app_of old).top.rules (app_of new).top.rules ≡ true → k < length (args_of old)
+    → (slice_index_or (args_of old) k d).required ≡ true
+    → list_any (is_loose_one (slice_index_or (args_of old) k d).id.now) (map rule_of (args_of new)) ≡ false
+tight_at old new k d gives lt required =
+    go (slice_index_or (args_of old) k d).required (list_any (is_loose_one (slice_index_or (args_of old) k d).id.now) (map rule_of (args_of new))) required
+    (each_rule (λ rule. not rule.required || not (list_any (is_loose_one rule.id) (map rule_of (args_of new)))) (args_of old) gives k d lt)
+  where
+    go : (a b : Bool) → a ≡ true → (not a || not b) ≡ true → b ≡ false
+    go true b t e = is_false b e
+    go false b t e = absurd (true≢false (sym t))
 -- ---- what each argument of a fit command gets
 
 -- the parts of the test
@@ -185,6 +285,7 @@ record Fits (command : App) : Type 0 where
   negates : command.top.subcommand_negates_reqs ≡ false
   distinct : are_distinct (ids_of command) ≡ true
   own : list_all is_own_id (ids_of command) ≡ true
+  values : gives_required command ≡ true
 
 fits : (command : App) → is_fit command ≡ true → Fits command
 fits command h =
@@ -194,13 +295,15 @@ fits command h =
     let s = both (is_empty command.subs) _ r.1 in
     let t = both (not command.top.subcommand_negates_reqs) _ s.1 in
     let u = both (are_distinct (ids_of command)) _ t.1 in
+    let v = both (list_all is_own_id (ids_of command)) _ u.1 in
     record {
       ready = q.0;
       free = r.0;
       leaf = is_nil _ s.0;
       negates = is_false _ t.0;
       distinct = u.0;
-      own = u.1;
+      own = v.0;
+      values = v.1;
     }
 
 pub fit_and_free : (command : App) → is_fit command ≡ true → is_simple_and_free command ≡ true
@@ -221,27 +324,27 @@ plain_command old fit =
       simple.groups,
     )
 
-one_least : (a : Arg) → a.num_vals ≡ None → 1 ≤ least_values a
-one_least a none = rw none (omega arith)
-
-arg_read : (old : Command) (m : ArgMatches) → IsParsedFrom old m → Fits (app_of old) → (k : ℕ) (d : Arg) → k < length (args_of old)
+arg_read : (old new : Command) (m : ArgMatches) (from : BuildsTo old new)
+    (parsed : (out-Command new).has_globals ≡ false → IsParsed new (found_of m) (has_subcommand m)) → Fits (app_of old)
+    → gives_values (app_of old).top.rules (app_of new).top.rules ≡ true → (k : ℕ) (d : Arg) → k < length (args_of old)
     → IsRead (found_of m) (rule_of (slice_index_or (args_of old) k d))
-arg_read old m p fit k d lt =
+arg_read old new m from parsed fit gives k d lt =
+    let p : IsParsedFrom old m = record { built = new; from = from; parsed = parsed } in
     let a = slice_index_or (args_of old) k d in
     let simple = simple_command old fit in
     let plain = plain_command old fit in
     let own = own_here (args_of old) k d lt fit.own in
     let unique : (j : ℕ) (e : Arg) → j < length (args_of old) → bytes_eq (slice_index_or (args_of old) j e).id.now a.id.now ≡ true → j ≡ k =
     λ j e jlt same. distinct_places (args_of old) fit.distinct j k e d jlt lt same in
-    let parsed = p.parsed (p.from.globals ∙ simple.globals) in
+    let values = (parsed (from.globals ∙ simple.globals)).values in
+    let no_groups = (from.plain plain).1 in
     record {
-      present = λ required. present_has_entry (found_of m) a.id.now (required_present old m p plain simple.globals fit.negates k d lt required);
-      given = λ required set range.
-          required_has_value old m p plain simple.globals fit.negates k d lt required set (simple.args k d lt).delimiter (one_least a range)
-          unique (not_empty_id _ own) (not_auto a own);
+      given = λ required.
+          has_value new (found_of m) a.id.now values no_groups (not_empty_id _ own) (tight_at old new k d gives lt required)
+          (present_has_entry (found_of m) a.id.now (required_present old m p plain simple.globals fit.negates k d lt required));
       passes = λ q parser has.
-          entry_read p.built (found_of m) a.id.now (λ (t : List ℕ). Accepts a.ignore_case q t) (reading_of q) parsed.values
-          (p.from.plain plain).1 (not_empty_id _ own) has (only_reading old m p k d lt unique (not_auto a own) q parser)
+          entry_read new (found_of m) a.id.now (λ (t : List ℕ). Accepts a.ignore_case q t) (reading_of q) values
+          no_groups (not_empty_id _ own) has (only_reading old m p k d lt unique (not_auto a own) q parser)
           (λ v pass. passes_read old m p k d lt unique (not_auto a own) q parser _ v refl pass);
     }
 
@@ -250,11 +353,22 @@ all_mapped P f [] h k d lt = absurd (omega arith)
 all_mapped P f (x ∷ xs) h zero d lt = h 0 x (omega arith)
 all_mapped P f (x ∷ xs) h (suc k) d lt = all_mapped P f xs (λ j e jlt. h (suc j) e (omega arith)) k d (omega arith)
 
-pub all_read : (old : Command) (m : ArgMatches) → IsParsedFrom old m → is_fit (app_of old) ≡ true → AreRead (app_of old).top.rules (found_of m)
-all_read old m p fit = all_mapped (IsRead (found_of m)) rule_of (args_of old) (λ k d lt. arg_read old m p (fits (app_of old) fit) k d lt)
-
 pub fit_and_simple : (command : App) → is_fit command ≡ true → is_simple command ≡ true
 fit_and_simple command h = (both (is_simple command) _ (fit_and_free command h)).0
+
+-- the command after the parse was built
+pub built_from : (old new : Command) → BuildsOrBreaks old new → (is_broken new ≡ true → ⊥)
+    → (app_of new ≡ app_of old) ⊎ (is_buildable (app_of old) ≡ true → app_of new ≡ built (app_of old))
+built_from old new (inl broken) whole = absurd (whole broken)
+built_from old new (inr made) whole = made.2
+
+pub all_read : (old new : Command) (m : ArgMatches) → BuildsTo old new
+    → ((out-Command new).has_globals ≡ false → IsParsed new (found_of m) (has_subcommand m)) → BuildsOrBreaks old new → (is_broken new ≡ true → ⊥)
+    → is_fit (app_of old) ≡ true → AreRead (app_of old).top.rules (found_of m)
+all_read old new m from parsed after whole fit =
+    let parts = fits (app_of old) fit in
+    let gives = values_kept old new parts.values (fit_and_simple (app_of old) fit) (built_from old new after whole) in
+    all_mapped (IsRead (found_of m)) rule_of (args_of old) (λ k d lt. arg_read old new m from parsed parts gives k d lt)
 
 -- an error of another kind than memory comes only of a fault
 pub usage_only : (kinds : Kinds) (e : Error) → HasKind kinds e → kind_of e ≢ OutOfMemory → kinds ≢ []

@@ -64,9 +64,11 @@ Holds words (Demo count) = Takes demo_command words
 abbrev pub Listed : List Text → Request → Type 0
 Listed words request = IsReadable words × Holds words request
 
--- the numbers of a request lie in their bounds
+-- the numbers of a request lie in their bounds, and its lists are not empty
 abbrev pub IsBounded : Request → Type 0
+IsBounded (Build image files) = 0 < length files
+IsBounded (Compile unit file) = ⊤
+IsBounded (Link image units) = 0 < length units
 IsBounded (Run steps stats image) = (0 < steps) × (steps ≤ most_steps)
-IsBounded (Go steps stats files) = (0 < steps) × (steps ≤ most_steps)
+IsBounded (Go steps stats files) = (0 < steps) × (steps ≤ most_steps) × (0 < length files)
 IsBounded (Demo count) = (0 < count) × (count ≤ most_count)
-IsBounded _ = ⊤

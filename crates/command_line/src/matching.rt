@@ -1,6 +1,6 @@
 //! What clap's matches hold.
 
-ghost use Rattle.std.specs.Prelude.{◌≡◌, ◌≢◌, ◌<◌, ◌≤◌, [], true, IfOk, IfErr, Some, codes, is_some, map, option_map};
+ghost use Rattle.std.specs.Prelude.{◌≡◌, ◌≢◌, ◌<◌, ◌≤◌, [], true, IfOk, IfErr, Some, codes, is_some, length, map, option_map};
 ghost use Rattle.std.specs.Option.{option_map_or};
 ghost use Rattle.clap.specs.Walk.{texts};
 ghost use Rattle.clap.specs.Words.{app_of, fault_of, found_of, first_value, matched_of, matches_of, one_text, raw_values, rows_of};
@@ -20,7 +20,7 @@ const DEFAULT_STEPS: u64 = 10_000_000_000;
 /// What clap reads of the words as this command, whose name is the first word. Usage comes only where clap finds a
 /// fault in the words.
 pub(crate) fn matches_of<'a>(
-    command: Command<'a>,
+    mut command: Command<'a>,
     words: &'a [&'a str],
 ) -> Result<ArgMatches<'a>, WordsNo>
     requires { is_fit (app_of command) ≡ true }
@@ -31,7 +31,7 @@ pub(crate) fn matches_of<'a>(
     ensures usage { IfErr result (λ no. no ≡ WordsNo.Usage →
         fault_of (app_of command.entry) (texts words.entry.now) ≢ []) }
 {
-    Ok(command.try_get_matches_from(words)?)
+    Ok(command.try_get_matches_from_mut(words)?)
 }
 
 /// A copy of the first value of an argument that has one.
@@ -43,15 +43,16 @@ pub(crate) fn name_of(alloc: Global, matches: &ArgMatches<'_>, id: &str) -> Resu
     Name::from_slice(alloc, text.as_bytes())
 }
 
-/// Copies of all values of an argument that was used.
+/// Copies of all values of an argument that has one.
 pub(crate) fn names_of(
     alloc: Global,
     matches: &ArgMatches<'_>,
     id: &str,
 ) -> Result<Names, NoMemory>
-    requires { is_some (matched_of (found_of matches.now) id.now) ≡ true }
-    ensures { IfOk result (λ names.
+    requires { is_some (first_value (found_of matches.now) id.now) ≡ true }
+    ensures values { IfOk result (λ names.
         option_map raw_values (matched_of (found_of matches.now) id.now) ≡ Some names) }
+    ensures some { IfOk result (λ names. 0 < length names) }
 {
     copies(alloc, matches.get_strs(id).unwrap())
 }

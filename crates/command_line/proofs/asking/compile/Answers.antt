@@ -8,12 +8,12 @@ use Rattle.command_line.proofs.asking.compile.Goals as goal
 pub name_of-requires : goal.name_of-requires
 name_of-requires c =
     (rules_read (app_of c.in_ok-compile_command.field-0) compile_command (found_of c.in_ok-matches.matches) c.in_ok-compile_command.ensures
-    c.in_ok-matches.ensures.read 0 (new_rule (codes "")) (omega arith)).given refl refl refl
+    c.in_ok-matches.ensures.read 0 (new_rule (codes "")) (omega arith)).given refl
 
 pub name_of-requires-2 : goal.name_of-requires-2
 name_of-requires-2 c =
     (rules_read (app_of c.in_ok-compile_command.field-0) compile_command (found_of c.in_ok-matches.matches) c.in_ok-compile_command.ensures
-    c.in_ok-matches.ensures.read 1 (new_rule (codes "")) (omega arith)).given refl refl refl
+    c.in_ok-matches.ensures.read 1 (new_rule (codes "")) (omega arith)).given refl
 
 pub returns-clause-found : goal.returns-clause-found
 returns-clause-found c =

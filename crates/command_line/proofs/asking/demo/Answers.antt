@@ -9,7 +9,7 @@ pub count_of-requires-clause-given : goal.count_of-requires-clause-given
 count_of-requires-clause-given c =
     let read = (rules_read (app_of c.in_ok-demo_command.field-0) demo_command (found_of c.in_ok-matches.matches) c.in_ok-demo_command.ensures
     c.in_ok-matches.ensures.read 0 (new_rule (codes "")) (omega arith)) in
-    text_given (found_of c.in_ok-matches.matches) count_rule 1 most_count read refl (read.given refl refl refl)
+    text_given (found_of c.in_ok-matches.matches) count_rule 1 most_count read refl (read.given refl)
 
 pub count_of-requires-clause-numeral : goal.count_of-requires-clause-numeral
 count_of-requires-clause-numeral c =

@@ -20,7 +20,7 @@ stats_of-requires c =
 pub names_of-requires : goal.names_of-requires
 names_of-requires c =
     (rules_read (app_of c.in_ok-go_command.field-0) go_command (found_of c.in_ok-matches.matches) c.in_ok-go_command.ensures
-    c.in_ok-matches.ensures.read 2 (new_rule (codes "")) (omega arith)).present refl
+    c.in_ok-matches.ensures.read 2 (new_rule (codes "")) (omega arith)).given refl
 
 pub returns-clause-found : goal.returns-clause-found
 returns-clause-found c =
@@ -32,5 +32,5 @@ returns-clause-found c =
       takes_is command go_command words found is rows c.requires c.in_ok-matches.ensures.taken,
       steps_is command go_command words found is rows _ c.steps_of.ensures.value,
       stats_is command go_command words found is rows _ c.stats_of.ensures,
-      all_is command go_command words found is rows (codes "files") _ c.in_ok-names_of.ensures,
+      all_is command go_command words found is rows (codes "files") _ c.in_ok-names_of.ensures.values,
     )

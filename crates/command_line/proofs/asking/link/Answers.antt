@@ -8,12 +8,12 @@ use Rattle.command_line.proofs.asking.link.Goals as goal
 pub name_of-requires : goal.name_of-requires
 name_of-requires c =
     (rules_read (app_of c.in_ok-link_command.field-0) link_command (found_of c.in_ok-matches.matches) c.in_ok-link_command.ensures
-    c.in_ok-matches.ensures.read 0 (new_rule (codes "")) (omega arith)).given refl refl refl
+    c.in_ok-matches.ensures.read 0 (new_rule (codes "")) (omega arith)).given refl
 
 pub names_of-requires : goal.names_of-requires
 names_of-requires c =
     (rules_read (app_of c.in_ok-link_command.field-0) link_command (found_of c.in_ok-matches.matches) c.in_ok-link_command.ensures
-    c.in_ok-matches.ensures.read 1 (new_rule (codes "")) (omega arith)).present refl
+    c.in_ok-matches.ensures.read 1 (new_rule (codes "")) (omega arith)).given refl
 
 pub returns-clause-found : goal.returns-clause-found
 returns-clause-found c =
@@ -24,5 +24,5 @@ returns-clause-found c =
     let rows = c.in_ok-matches.ensures.rows in (
       takes_is command link_command words found is rows c.requires c.in_ok-matches.ensures.taken,
       first_is command link_command words found is rows (codes "image") _ c.in_ok-name_of.ensures,
-      all_is command link_command words found is rows (codes "units") _ c.in_ok-names_of.ensures,
+      all_is command link_command words found is rows (codes "units") _ c.in_ok-names_of.ensures.values,
     )

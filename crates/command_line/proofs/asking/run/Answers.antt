@@ -20,7 +20,7 @@ stats_of-requires c =
 pub name_of-requires : goal.name_of-requires
 name_of-requires c =
     (rules_read (app_of c.in_ok-run_command.field-0) run_command (found_of c.in_ok-matches.matches) c.in_ok-run_command.ensures
-    c.in_ok-matches.ensures.read 2 (new_rule (codes "")) (omega arith)).given refl refl refl
+    c.in_ok-matches.ensures.read 2 (new_rule (codes "")) (omega arith)).given refl
 
 pub returns-clause-found : goal.returns-clause-found
 returns-clause-found c =
