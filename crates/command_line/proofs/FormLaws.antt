@@ -1,8 +1,6 @@
 -- The plain forms of the commands `go` and `run`.
-use Rattle.std.proofs.Common.{◌≡◌, ◌≢◌, ◌∙◌, ◌==◌, ◌<◌, ◌≤◌, ◌^◌, ap, ℕ, Bool, true, false, zero, suc, List, [], ◌∷◌, get_or, length, Option, Some, None, refl, codes, arith, rules}
-use Rattle.std.specs.Prelude.{slice_get}
+use Rattle.std.proofs.Common.{◌≡◌, ◌∙◌, ◌<◌, ◌≤◌, ◌^◌, ap, ℕ, false, [], ◌∷◌, get_or, Some, refl, codes, arith, rules}
 use Rattle.std.specs.Fmt.{decimal}
-use Rattle.std.specs.List.{All}
 use Rattle.std.specs.Str.{IsUtf8}
 use Rattle.std.specs.Str.Parse.{digits_value, without_leading_plus}
 use Rattle.std.proofs.lemmas.Bool.{ne_eqb}
@@ -11,7 +9,7 @@ use Rattle.std.proofs.lemmas.List.Elements.{All-cons, All-nil}
 use Rattle.std.proofs.lemmas.Str.{IsUtf8-from_ascii}
 use Rattle.std.proofs.lemmas.Str.Parse.{without_leading_plus_none}
 use Rattle.clap.specs.Walk.{Held, Walk, after_step, nothing_held, value, walk_from}
-use Rattle.clap.specs.Simple.{App, Shape, built}
+use Rattle.clap.specs.Simple.{App, built}
 use Rattle.clap.specs.Kinds.{or_else}
 use Rattle.clap.specs.Values.{Accepts}
 use Rattle.clap.specs.Words.{Text, all_of, fault_of, first_of, matches_of}

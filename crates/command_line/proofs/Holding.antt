@@ -1,9 +1,9 @@
 -- From what a parse found to the request that the words hold.
-use Rattle.std.proofs.Common.{◌≡◌, ◌∙◌, ◌≤◌, ap, ℕ, Bool, true, false, List, [], ◌∷◌, map, is_some, Option, Some, None, refl, sym, subst, codes}
-use Rattle.std.specs.Prelude.{option_and_then, option_map, slice_get, All}
+use Rattle.std.proofs.Common.{◌≡◌, ◌∙◌, ap, ℕ, Bool, true, false, List, [], ◌∷◌, is_some, Option, Some, None, refl, sym, subst, codes}
+use Rattle.std.specs.Prelude.{option_and_then, option_map, slice_get}
 use Rattle.std.specs.Borrow.{Bor}
 use Rattle.std.specs.Option.{option_map_or}
-use Rattle.clap.specs.Words.{Accepts, App, IsUnsignedIn, Rule, Text, all_of, fault_of, first_of, first_value, found_of, matched_of, matches_of, new_rule, one_of, one_text, raw_values, read_as, reading_of, rows_of}
+use Rattle.clap.specs.Words.{Accepts, App, IsUnsignedIn, Rule, Text, all_of, fault_of, first_of, first_value, matched_of, matches_of, one_of, one_text, raw_values, read_as, rows_of}
 use Rattle.clap.specs.declared.parser.matches.Found.{Found}
 use Rattle.clap.specs.declared.parser.matches.MatchedArg.{MatchedArg}
 use Rattle.clap.specs.declared.builder.value_parser.Reading.{Reading}

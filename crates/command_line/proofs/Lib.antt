@@ -3,3 +3,4 @@ pub mod Holding
 pub mod TextLemmas
 pub mod Turns
 pub mod FormLaws
+pub mod RequestLaws

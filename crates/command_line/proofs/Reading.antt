@@ -1,16 +1,16 @@
 -- What a parse found for each argument of a command that is fit.
-use Rattle.std.proofs.Common.{◌≡◌, ◌≢◌, ◌⊎◌, ◌∙◌, ◌<◌, ◌≤◌, ◌==◌, ◌&&◌, ◌||◌, not, ap, ℕ, Bool, true, false, true≢false, zero, suc, List, [], ◌∷◌, length, map, is_some, Option, Some, None, Result, Ok, Err, IfErr, IsErrAnd, refl, sym, subst, inl, inr, arith}
+use Rattle.std.proofs.Common.{◌≡◌, ◌≢◌, ◌⊎◌, ◌∙◌, ◌<◌, ◌==◌, ◌&&◌, ◌||◌, not, ap, ℕ, Bool, true, false, true≢false, zero, suc, List, [], ◌∷◌, length, map, is_some, Option, Some, None, Result, Ok, Err, IfErr, IsErrAnd, refl, sym, subst, inl, inr, arith}
 use Rattle.std.specs.List.{All, Any, list_all, list_any, slice_index_or}
 use Rattle.std.specs.Str.{bytes_eq}
-use Rattle.std.specs.Prelude.{codes, option_map, slice_get, unwrap_or}
+use Rattle.std.specs.Prelude.{option_map, slice_get, unwrap_or}
 use Rattle.std.specs.Borrow.{Bor}
 use Rattle.std.proofs.lemmas.List.Elements.{All-get_or}
 use Rattle.std.proofs.lemmas.Slice.Eq.{bytes_eq-Decides}
 use Rattle.clap.specs.Facts.{args_of, groups_of, IsParsed, Entry, EntryPasses, ValuesPass, PassesArg, HasReading, MayBeEmpty, parser_of, parser_of_value, unwrap_or_range}
-use Rattle.clap.specs.Built.{BuildsOrBreaks, BuildsTo, IsPlain, IsPlainArg, IsParsedFrom, IsAuto, SameRules, is_broken}
+use Rattle.clap.specs.Built.{BuildsOrBreaks, BuildsTo, IsPlain, IsParsedFrom, IsAuto, SameRules, is_broken}
 use Rattle.clap.specs.Matches.{matched_of, first_value, has_subcommand, one_text, found_of}
 use Rattle.clap.specs.Faults.{has_free_rules}
-use Rattle.clap.specs.Simple.{App, HasReadyLeaves, IsSimple, Shape, app_of, built, is_buildable, is_ready, is_ready_leaf, shape_of}
+use Rattle.clap.specs.Simple.{App, IsSimple, app_of, built, is_buildable, is_ready, is_ready_leaf, shape_of}
 use Rattle.clap.specs.Walk.{Rule, Text, is_empty, is_simple_arg, rule_of}
 use Rattle.clap.specs.Values.{Accepts, read_as, reading_of}
 use Rattle.clap.specs.Words.{HasKind, Kinds, is_simple, is_simple_and_free, kind_of}
@@ -275,6 +275,7 @@ tight_at old new k d gives lt required =
     go : (a b : Bool) → a ≡ true → (not a || not b) ≡ true → b ≡ false
     go true b t e = is_false b e
     go false b t e = absurd (true≢false (sym t))
+
 -- ---- what each argument of a fit command gets
 
 -- the parts of the test

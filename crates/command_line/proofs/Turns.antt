@@ -1,5 +1,5 @@
 -- The walk of clap over words, turn by turn.
-use Rattle.std.proofs.Common.{◌≡◌, ◌∙◌, ◌==◌, ap, ap₂, ℕ, Bool, true, false, List, [], ◌∷◌, Option, Some, None, refl, cond, is_some, fold}
+use Rattle.std.proofs.Common.{◌≡◌, ◌∙◌, ◌==◌, ap, ap₂, ℕ, false, List, [], ◌∷◌, None, refl, cond, is_some, fold}
 use Rattle.std.specs.Str.{bytes_eq}
 use Rattle.std.specs.Option.{option_map_or}
 use Rattle.clap.specs.Lexer.{long_of, short_of}

@@ -1,5 +1,5 @@
 -- The six commands with their arguments, as clap sees them.
-use Rattle.std.specs.Prelude.{◌^◌, ℕ, true, List, [], ◌∷◌, Some, codes}
+use Rattle.std.specs.Prelude.{◌^◌, ℕ, true, [], Some, codes}
 use Rattle.clap.specs.Lexer.{usize_max}
 use Rattle.clap.specs.Words.{App, Rule, Text, new_rule, with_rule}
 use Rattle.clap.specs.Simple.{new_shape}

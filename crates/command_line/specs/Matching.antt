@@ -1,5 +1,5 @@
 -- What the code asks of a command, and what it may then read of its matches.
-use Rattle.std.specs.Prelude.{◌≡◌, ◌==◌, ◌&&◌, ◌||◌, ◌≤◌, ⊤, ℕ, Bool, true, false, not, List, [], ◌∷◌, All, Option, Some, None, codes, is_some, map}
+use Rattle.std.specs.Prelude.{◌≡◌, ◌==◌, ◌&&◌, ◌||◌, ⊤, ℕ, Bool, true, false, not, List, [], ◌∷◌, All, Option, Some, None, codes, is_some, map}
 use Rattle.std.specs.List.{list_all, list_any}
 use Rattle.std.specs.Option.{option_map_or}
 use Rattle.std.specs.Str.{bytes_eq}
@@ -7,7 +7,7 @@ use Rattle.clap.specs.Facts.{unwrap_or_range}
 use Rattle.clap.specs.Faults.{has_free_rules}
 use Rattle.clap.specs.Simple.{built, is_ready}
 use Rattle.clap.specs.Walk.{action_of, is_empty}
-use Rattle.clap.specs.Words.{Accepts, App, Rule, Text, first_value, is_simple_and_free, matched_of, one_text, read_as, reading_of, IsUnsignedIn}
+use Rattle.clap.specs.Words.{Accepts, App, Rule, Text, first_value, is_simple_and_free, one_text, read_as, reading_of, IsUnsignedIn}
 use Rattle.clap.specs.declared.parser.matches.Found.{Found}
 use Rattle.clap.specs.declared.builder.action.ArgAction.{ArgAction}
 use Rattle.clap.specs.declared.builder.action.ArgAction.TheVariants.{Count}

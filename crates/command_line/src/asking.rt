@@ -1,6 +1,6 @@
 //! From words to requests.
 
-ghost use Rattle.std.specs.Prelude.{◌≡◌, IfOk, IfErr, MatchResult, All, Some, codes, map, slice_get};
+ghost use Rattle.std.specs.Prelude.{◌≡◌, ℕ, List, IfOk, IfErr, IsErr, MatchResult, All, Some, codes, map, slice_get};
 ghost use Rattle.clap.specs.Walk.{texts};
 ghost use Rattle.std.specs.Str.{IsUtf8};
 ghost use Rattle.command_line.specs.Commands.{build_command, compile_command, demo_command, go_command, link_command, run_command};
@@ -19,13 +19,23 @@ use std::alloc::Global;
 /// The most words that are read.
 const MOST_WORDS: usize = 1000;
 
-/// What the words after the program's name ask for.
+/// What the words after the program's name ask for, as clap reads them: the first word names one of six commands, and
+/// clap takes the words behind it. Usage comes exactly where there are more than 1,000 words, a word is not UTF-8, the
+/// first word is no command, there is none, or clap finds a fault in the words. NoMemory comes where memory is
+/// refused.
+///
+/// The lines are `build -o IMAGE FILE..`, `compile -o UNIT FILE`, `link -o IMAGE UNIT..`,
+/// `run [--steps N] [--stats] IMAGE`, `go [--steps N] [--stats] FILE..` and `demo N`. Options stand in any order, also
+/// behind the names, and each at most once. A name that begins with a dash stands behind `--`. The N of `--steps` is
+/// from 1 to 10^12, and 10^10 without the option. The N of `demo` is from 1 to 2,000. Both may have a plus sign and
+/// zeros in front.
 pub fn request_of(alloc: Global, words: &[Name]) -> Result<Request, WordsNo>
     ensures found { IfOk result (Listed words.now) }
     ensures bounded { IfOk result IsBounded }
-    ensures usage { IfErr result (λ no. no ≡ WordsNo.Usage → IsUsable words.now → ⊥) }
+    ensures usage { IfErr result (λ why. why ≡ WordsNo.Usage → IsUsable words.now → ⊥) }
+    ensures refused { (IsUsable words.now → ⊥) → IsErr result }
     ensures only { (request : Request) → Listed words.now request →
-        MatchResult result (λ found. found ≡ request) (λ no. no ≡ WordsNo.NoMemory) }
+        MatchResult result (λ found. found ≡ request) (λ why. why ≡ WordsNo.NoMemory) }
 {
     if words.len() > MOST_WORDS {
         return Err(WordsNo::Usage);
@@ -38,7 +48,7 @@ pub fn request_of(alloc: Global, words: &[Name]) -> Result<Request, WordsNo>
 fn texts_of(alloc: Global, words: &[Name]) -> Result<Vec<&str>, WordsNo>
     ensures found { IfOk result (λ texts. map (λ text. text.now) texts.items ≡ words.now) }
     ensures utf8 { IfOk result (λ _. All IsUtf8 words.now) }
-    ensures usage { IfErr result (λ no. no ≡ WordsNo.Usage → All IsUtf8 words.now → ⊥) }
+    ensures usage { IfErr result (λ why. why ≡ WordsNo.Usage → All IsUtf8 words.now → ⊥) }
 {
     let mut texts = Vec::new(alloc);
     for word in words {
@@ -51,7 +61,7 @@ fn texts_of(alloc: Global, words: &[Name]) -> Result<Vec<&str>, WordsNo>
 fn text_of(word: &Name) -> Result<&str, WordsNo>
     ensures found { IfOk result (λ text. text.now ≡ word.now) }
     ensures utf8 { IfOk result (λ _. IsUtf8 word.now) }
-    ensures usage { IfErr result (λ no. no ≡ WordsNo.Usage → IsUtf8 word.now → ⊥) }
+    ensures usage { IfErr result (λ why. why ≡ WordsNo.Usage → IsUtf8 word.now → ⊥) }
 {
     str::from_utf8(word.as_slice()).map_err(|_| WordsNo::Usage)
 }
@@ -60,7 +70,7 @@ fn text_of(word: &Name) -> Result<&str, WordsNo>
 fn request_in(alloc: Global, words: &[&str]) -> Result<Request, WordsNo>
     ensures found { IfOk result (Holds (texts words.now)) }
     ensures bounded { IfOk result IsBounded }
-    ensures usage { IfErr result (λ no. no ≡ WordsNo.Usage → IsTaken (texts words.now) → ⊥) }
+    ensures usage { IfErr result (λ why. why ≡ WordsNo.Usage → IsTaken (texts words.now) → ⊥) }
 {
     match words.first().copied() {
         Some("build") => build(alloc, words),
@@ -78,7 +88,7 @@ fn build(alloc: Global, words: &[&str]) -> Result<Request, WordsNo>
     requires { slice_get (texts words.now) 0 ≡ Some (codes "build") }
     ensures found { IfOk result (Holds (texts words.now)) }
     ensures bounded { IfOk result IsBounded }
-    ensures usage { IfErr result (λ no. no ≡ WordsNo.Usage → Takes build_command (texts words.now) → ⊥) }
+    ensures usage { IfErr result (λ why. why ≡ WordsNo.Usage → Takes build_command (texts words.now) → ⊥) }
 {
     let matches = matches_of(build_command(alloc)?, words)?;
     Ok(Request::Build {
@@ -92,7 +102,7 @@ fn compile(alloc: Global, words: &[&str]) -> Result<Request, WordsNo>
     requires { slice_get (texts words.now) 0 ≡ Some (codes "compile") }
     ensures found { IfOk result (Holds (texts words.now)) }
     ensures bounded { IfOk result IsBounded }
-    ensures usage { IfErr result (λ no. no ≡ WordsNo.Usage → Takes compile_command (texts words.now) → ⊥) }
+    ensures usage { IfErr result (λ why. why ≡ WordsNo.Usage → Takes compile_command (texts words.now) → ⊥) }
 {
     let matches = matches_of(compile_command(alloc)?, words)?;
     Ok(Request::Compile {
@@ -106,7 +116,7 @@ fn link(alloc: Global, words: &[&str]) -> Result<Request, WordsNo>
     requires { slice_get (texts words.now) 0 ≡ Some (codes "link") }
     ensures found { IfOk result (Holds (texts words.now)) }
     ensures bounded { IfOk result IsBounded }
-    ensures usage { IfErr result (λ no. no ≡ WordsNo.Usage → Takes link_command (texts words.now) → ⊥) }
+    ensures usage { IfErr result (λ why. why ≡ WordsNo.Usage → Takes link_command (texts words.now) → ⊥) }
 {
     let matches = matches_of(link_command(alloc)?, words)?;
     Ok(Request::Link {
@@ -120,7 +130,7 @@ fn run(alloc: Global, words: &[&str]) -> Result<Request, WordsNo>
     requires { slice_get (texts words.now) 0 ≡ Some (codes "run") }
     ensures found { IfOk result (Holds (texts words.now)) }
     ensures bounded { IfOk result IsBounded }
-    ensures usage { IfErr result (λ no. no ≡ WordsNo.Usage → Takes run_command (texts words.now) → ⊥) }
+    ensures usage { IfErr result (λ why. why ≡ WordsNo.Usage → Takes run_command (texts words.now) → ⊥) }
 {
     let matches = matches_of(run_command(alloc)?, words)?;
     Ok(Request::Run {
@@ -135,7 +145,7 @@ fn go(alloc: Global, words: &[&str]) -> Result<Request, WordsNo>
     requires { slice_get (texts words.now) 0 ≡ Some (codes "go") }
     ensures found { IfOk result (Holds (texts words.now)) }
     ensures bounded { IfOk result IsBounded }
-    ensures usage { IfErr result (λ no. no ≡ WordsNo.Usage → Takes go_command (texts words.now) → ⊥) }
+    ensures usage { IfErr result (λ why. why ≡ WordsNo.Usage → Takes go_command (texts words.now) → ⊥) }
 {
     let matches = matches_of(go_command(alloc)?, words)?;
     Ok(Request::Go {
@@ -150,10 +160,15 @@ fn demo(alloc: Global, words: &[&str]) -> Result<Request, WordsNo>
     requires { slice_get (texts words.now) 0 ≡ Some (codes "demo") }
     ensures found { IfOk result (Holds (texts words.now)) }
     ensures bounded { IfOk result IsBounded }
-    ensures usage { IfErr result (λ no. no ≡ WordsNo.Usage → Takes demo_command (texts words.now) → ⊥) }
+    ensures usage { IfErr result (λ why. why ≡ WordsNo.Usage → Takes demo_command (texts words.now) → ⊥) }
 {
     let matches = matches_of(demo_command(alloc)?, words)?;
     Ok(Request::Demo {
         count: count_of(&matches),
     })
 }
+
+/// Words are listed as one request at most.
+pub fn one_request()
+    ensures { (words : List (List ℕ)) (r s : Request) → Listed words r → Listed words s → r ≡ s }
+{}

@@ -9,12 +9,11 @@ mod names;
 mod refusal;
 mod request;
 
-pub use asking::request_of;
+pub use asking::{one_request, request_of};
 pub use forms::{go_forms, run_forms};
 pub use names::Names;
 pub use refusal::WordsNo;
 pub use request::Request;
-
 
 #[cfg(test)]
 mod tests;

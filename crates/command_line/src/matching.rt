@@ -28,7 +28,7 @@ pub(crate) fn matches_of<'a>(
         rows_of (found_of matches) ≡ matches_of (app_of command.entry) (texts words.entry.now)) }
     ensures taken { IfOk result (λ _. fault_of (app_of command.entry) (texts words.entry.now) ≡ []) }
     ensures read { IfOk result (λ matches. AreRead (app_of command.entry).top.rules (found_of matches)) }
-    ensures usage { IfErr result (λ no. no ≡ WordsNo.Usage →
+    ensures usage { IfErr result (λ why. why ≡ WordsNo.Usage →
         fault_of (app_of command.entry) (texts words.entry.now) ≢ []) }
 {
     Ok(command.try_get_matches_from_mut(words)?)
@@ -44,11 +44,7 @@ pub(crate) fn name_of(alloc: Global, matches: &ArgMatches<'_>, id: &str) -> Resu
 }
 
 /// Copies of all values of an argument that has one.
-pub(crate) fn names_of(
-    alloc: Global,
-    matches: &ArgMatches<'_>,
-    id: &str,
-) -> Result<Names, NoMemory>
+pub(crate) fn names_of(alloc: Global, matches: &ArgMatches<'_>, id: &str) -> Result<Names, NoMemory>
     requires { is_some (first_value (found_of matches.now) id.now) ≡ true }
     ensures values { IfOk result (λ names.
         option_map raw_values (matched_of (found_of matches.now) id.now) ≡ Some names) }

@@ -80,10 +80,7 @@ fn lines_are_read(rt: HostRuntime) -> Result<(), NoMemory> {
         ("run ", "run 10000000000 false "),
         ("go a.c", "go 10000000000 false a.c"),
         ("go --steps 1 a.c", "go 1 false a.c"),
-        (
-            "go --steps 1000000000000 a.c",
-            "go 1000000000000 false a.c",
-        ),
+        ("go --steps 1000000000000 a.c", "go 1000000000000 false a.c"),
         ("go --steps +5 a.c", "go 5 false a.c"),
         ("go --steps 05 a.c", "go 5 false a.c"),
         ("go a.c --stats b.c", "go 10000000000 true a.c b.c"),
@@ -99,15 +96,50 @@ fn lines_are_read(rt: HostRuntime) -> Result<(), NoMemory> {
 #[test]
 fn other_lines_are_refused(rt: HostRuntime) -> Result<(), NoMemory> {
     for line in [
-        "", " build", "Build", "help", "--help", "-h", "--version", "-V", "build", "build a.c",
-        "build -o a.img", "build -o", "build -o a.img -o b.img a.c", "build -o a.img -x a.c",
-        "build -o a.img --help a.c", "build -h", "build --version", "build -V",
-        "build --steps 1 -o a.img a.c", "compile -o a.o a.c b.c", "link -o a.img", "run",
-        "run a.img b.img", "run --steps a.img", "run --stats=true a.img", "run --stats --stats a.img",
-        "run -o a.img b.img", "go", "go --stats", "go -x", "go --steps 0 a.c",
-        "go --steps 1000000000001 a.c", "go --steps -1 a.c", "go --steps 1 --steps 1 a.c",
-        "go --steps  a.c", "go --steps 5x a.c", "go --step 5 a.c", "demo", "demo 0", "demo 2001",
-        "demo -1", "demo x", "demo 7 7", "demo --help",
+        "",
+        " build",
+        "Build",
+        "help",
+        "--help",
+        "-h",
+        "--version",
+        "-V",
+        "build",
+        "build a.c",
+        "build -o a.img",
+        "build -o",
+        "build -o a.img -o b.img a.c",
+        "build -o a.img -x a.c",
+        "build -o a.img --help a.c",
+        "build -h",
+        "build --version",
+        "build -V",
+        "build --steps 1 -o a.img a.c",
+        "compile -o a.o a.c b.c",
+        "link -o a.img",
+        "run",
+        "run a.img b.img",
+        "run --steps a.img",
+        "run --stats=true a.img",
+        "run --stats --stats a.img",
+        "run -o a.img b.img",
+        "go",
+        "go --stats",
+        "go -x",
+        "go --steps 0 a.c",
+        "go --steps 1000000000001 a.c",
+        "go --steps -1 a.c",
+        "go --steps 1 --steps 1 a.c",
+        "go --steps  a.c",
+        "go --steps 5x a.c",
+        "go --step 5 a.c",
+        "demo",
+        "demo 0",
+        "demo 2001",
+        "demo -1",
+        "demo x",
+        "demo 7 7",
+        "demo --help",
     ] {
         assert!(rt; answer_to(rt.alloc(), line)?.as_str() == "usage", "{line}");
     }
@@ -138,7 +170,10 @@ fn a_thousand_words_are_read(rt: HostRuntime) -> Result<(), NoMemory> {
 fn no_words_and_other_bytes_are_refused(rt: HostRuntime) -> Result<(), NoMemory> {
     let alloc = rt.alloc();
     assert!(rt; matches!(request_of(alloc, &[]), Err(WordsNo::Usage)));
-    let words = [Name::from_slice(alloc, b"go")?, Name::from_slice(alloc, b"a\xff.c")?];
+    let words = [
+        Name::from_slice(alloc, b"go")?,
+        Name::from_slice(alloc, b"a\xff.c")?,
+    ];
     assert!(rt; matches!(request_of(alloc, words.as_slice()), Err(WordsNo::Usage)));
     Ok(())
 }

@@ -1,6 +1,6 @@
 use Rattle.std.proofs.Common.{refl, arith, codes}
 use Rattle.clap.specs.Walk.{texts}
-use Rattle.clap.specs.Words.{App, app_of, found_of, new_rule}
+use Rattle.clap.specs.Words.{app_of, found_of, new_rule}
 use Rattle.command_line.specs.Commands.{demo_command, count_rule, most_count}
 use Rattle.command_line.proofs.Holding.{count_is, numeral_in, rules_read, takes_is, text_given}
 use Rattle.command_line.proofs.asking.demo.Goals as goal

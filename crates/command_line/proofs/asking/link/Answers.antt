@@ -1,6 +1,6 @@
 use Rattle.std.proofs.Common.{refl, arith, codes}
 use Rattle.clap.specs.Walk.{texts}
-use Rattle.clap.specs.Words.{App, app_of, found_of, new_rule}
+use Rattle.clap.specs.Words.{app_of, found_of, new_rule}
 use Rattle.command_line.specs.Commands.{link_command}
 use Rattle.command_line.proofs.Holding.{all_is, first_is, rules_read, takes_is}
 use Rattle.command_line.proofs.asking.link.Goals as goal

@@ -1,6 +1,6 @@
 use Rattle.std.proofs.Common.{refl, arith, codes}
 use Rattle.clap.specs.Walk.{texts}
-use Rattle.clap.specs.Words.{App, app_of, found_of, new_rule}
+use Rattle.clap.specs.Words.{app_of, found_of, new_rule}
 use Rattle.command_line.specs.Commands.{run_command, most_steps, stats_rule, steps_rule}
 use Rattle.command_line.proofs.Holding.{first_is, numeral_in, rules_read, stats_is, steps_is, switch_in, takes_is}
 use Rattle.command_line.proofs.asking.run.Goals as goal

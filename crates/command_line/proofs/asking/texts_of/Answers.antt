@@ -1,4 +1,3 @@
-use Rattle.std.proofs.Common.{arith}
 use Rattle.command_line.proofs.TextLemmas.{texts_more, usage_here, utf8_all, utf8_more}
 use Rattle.command_line.proofs.asking.texts_of.Goals as goal
 

@@ -1,4 +1,3 @@
-use Rattle.std.proofs.Common.{◌≡◌, [], true}
 use Rattle.clap.specs.Walk.{texts}
 use Rattle.clap.specs.Words.{app_of, fault_of}
 use Rattle.command_line.proofs.Reading.{all_read, fit_and_free, fit_and_simple, usage_refused}
