@@ -191,7 +191,7 @@ readable_four a b c d ua ub uc ud = (
 -- ---- the requests
 
 pub go_listed : (file : Text) → IsUtf8 file → IsFileWord file → Listed (plain_words (codes "go") file) (Go default_steps false (file ∷ []))
-unfolding clap_on_literals
+unfolding clap_on_literals Listed
 go_listed file utf8 is =
     let bare = bare_file file is in
     let rows = go_plain_rows file bare in (
@@ -205,7 +205,7 @@ go_listed file utf8 is =
     )
 
 pub run_listed : (file : Text) → IsUtf8 file → IsFileWord file → Listed (plain_words (codes "run") file) (Run default_steps false file)
-unfolding clap_on_literals
+unfolding clap_on_literals Listed
 run_listed file utf8 is =
     let bare = bare_file file is in
     let rows = run_plain_rows file bare in (
@@ -220,7 +220,7 @@ run_listed file utf8 is =
 
 pub go_steps_listed : (file : Text) (steps : ℕ) → IsUtf8 file → IsFileWord file → 0 < steps → steps ≤ most_steps
     → Listed (words_with_steps (codes "go") steps file) (Go steps false (file ∷ []))
-unfolding clap_on_literals
+unfolding clap_on_literals Listed
 go_steps_listed file steps utf8 is some most =
     let bare = bare_file file is in
     let digits = bare_from (decimal steps) (first_decimal steps some (below_word steps most)) in
@@ -237,7 +237,7 @@ go_steps_listed file steps utf8 is some most =
 
 pub run_steps_listed : (file : Text) (steps : ℕ) → IsUtf8 file → IsFileWord file → 0 < steps → steps ≤ most_steps
     → Listed (words_with_steps (codes "run") steps file) (Run steps false file)
-unfolding clap_on_literals
+unfolding clap_on_literals Listed
 run_steps_listed file steps utf8 is some most =
     let bare = bare_file file is in
     let digits = bare_from (decimal steps) (first_decimal steps some (below_word steps most)) in

@@ -16,8 +16,10 @@ taken words (Demo count) h = inr (inr (inr (inr (inr h.0))))
 
 -- words that are listed are usable
 pub usable : (words : List Text) (request : Request) → Listed words request → IsUsable words
+unfolding IsUsable Listed
 usable words request h = (h.0, taken words request h.1)
 
 -- words are listed as one request at most
 pub one_request : (words : List Text) (r s : Request) → Listed words r → Listed words s → r ≡ s
+unfolding Listed
 one_request words r s p q = grind (arith, common_steps)

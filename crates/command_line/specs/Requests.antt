@@ -35,7 +35,7 @@ IsTaken words = Takes build_command words ⊎ (Takes compile_command words ⊎ (
     ⊎ (Takes run_command words ⊎ (Takes go_command words ⊎ Takes demo_command words))))
 
 -- at most 1,000 words, each of them UTF-8, which one of the six commands takes
-abbrev pub IsUsable : List Text → Type 0
+unfoldable pub IsUsable : List Text → Type 0
 IsUsable words = IsReadable words × IsTaken words
 
 -- a command takes the words, and its matches hold the request's values
@@ -61,7 +61,7 @@ Holds words (Demo count) = Takes demo_command words
     × (option_map number_in (one_of (codes "count") (matches_of demo_command words)) ≡ Some count)
 
 -- The words are listed as this request: at most 1,000 words, each of them UTF-8, as which clap reads the request.
-abbrev pub Listed : List Text → Request → Type 0
+unfoldable pub Listed : List Text → Request → Type 0
 Listed words request = IsReadable words × Holds words request
 
 -- the numbers of a request lie in their bounds, and its lists are not empty

@@ -29,6 +29,7 @@ const MOST_WORDS: usize = 1000;
 /// behind the names, and each at most once. A name that begins with a dash stands behind `--`. The N of `--steps` is
 /// from 1 to 10^12, and 10^10 without the option. The N of `demo` is from 1 to 2,000. Both may have a plus sign and
 /// zeros in front.
+#[tactic(auto, unfolding(crate::specs::Requests::IsUsable, crate::specs::Requests::Listed))]
 pub fn request_of(alloc: Global, words: &[Name]) -> Result<Request, WordsNo>
     ensures found { IfOk result (Listed words.now) }
     ensures bounded { IfOk result IsBounded }
