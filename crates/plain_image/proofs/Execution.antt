@@ -69,7 +69,7 @@ unfolding action_of
 acts code rest k inst registers cell count small stands valid names =
     let memory = code_region code ∷ buffer_region cell ∷ [] in
     let word : fetched memory (0x10000 + 4 * k) ≡ Ok (little_endian (word_of inst)) =
-        fetched-from memory (0x10000 + 4 * k) (word_of inst) (omega arith) (fetches code rest k inst cell small stands) in
+    fetched-from memory (0x10000 + 4 * k) (word_of inst) (omega arith) (fetches code rest k inst cell small stands) in
     rw (word, word_is inst valid names, decoded-encoding inst valid names) refl
 
 -- the pc of the next instruction

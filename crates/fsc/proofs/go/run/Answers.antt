@@ -16,7 +16,7 @@ returns-in-WriteFault-clause-runs g c =
     let told = g.S.Source.left c.args.input.now in (
       subst (λ (bytes : List ℕ). RunsWrite bytes c.args.program.now.status c.in-Ok.image) c.as_slice.ensures c.in-Ok.ensures.writes,
       front_from_start c.in-Ok-new.machine _ c.args.steps (given_of told) _ _ c.in-Ok-new.ensures
-        (c.in-WriteFault.ensures.run (given_of told) (known _ _ _ c.in-Ok-new.machine c.args.steps told c.in-Ok-new.ensures c.in-Ok.ensures.writes)),
+          (c.in-WriteFault.ensures.run (given_of told) (known _ _ _ c.in-Ok-new.machine c.args.steps told c.in-Ok-new.ensures c.in-Ok.ensures.writes)),
     )
 
 pub returns-in-WriteFault-clause-untouched : goal.returns-in-WriteFault-clause-untouched
@@ -28,7 +28,7 @@ returns-in-NoMemory-clause-runs g c =
     let told = g.S.Source.left c.args.input.now in (
       subst (λ (bytes : List ℕ). RunsWrite bytes c.args.program.now.status c.in-Ok.image) c.as_slice.ensures c.in-Ok.ensures.writes,
       front_from_start c.in-Ok-new.machine _ c.args.steps (given_of told) _ _ c.in-Ok-new.ensures
-        (c.in-NoMemory.ensures.run (given_of told) (known _ _ _ c.in-Ok-new.machine c.args.steps told c.in-Ok-new.ensures c.in-Ok.ensures.writes)),
+          (c.in-NoMemory.ensures.run (given_of told) (known _ _ _ c.in-Ok-new.machine c.args.steps told c.in-Ok-new.ensures c.in-Ok.ensures.writes)),
     )
 
 pub returns-in-NoMemory-clause-untouched : goal.returns-in-NoMemory-clause-untouched
@@ -44,11 +44,11 @@ unreachable-requires-in-StopCall g c =
     let told = g.S.Source.left c.args.input.now in
     let run = c.in-StopCall.ensures.run (given_of told) (known _ _ _ c.in-Ok-new.machine c.args.steps told c.in-Ok-new.ensures c.in-Ok.ensures.writes) in
     no_stop_call c.in-StopCall.kind c.in-StopCall.block c.in-StopCall.offset c.in-StopCall.width c.args.program.now.status
-      (stops_so _ _ _ c.in-Ok-new.machine c.args.steps (given_of told) _ c.in-Ok-new.ensures c.in-Ok.ensures.writes run.0)
+    (stops_so _ _ _ c.in-Ok-new.machine c.args.steps (given_of told) _ c.in-Ok-new.ensures c.in-Ok.ensures.writes run.0)
 
 pub unreachable-requires-in-Trap : goal.unreachable-requires-in-Trap
 unreachable-requires-in-Trap g c =
     let told = g.S.Source.left c.args.input.now in
     let run = c.in-Trap.ensures.run (given_of told) (known _ _ _ c.in-Ok-new.machine c.args.steps told c.in-Ok-new.ensures c.in-Ok.ensures.writes) in
     no_trap c.in-Trap.kind c.in-Trap.pc c.args.program.now.status
-      (stops_so _ _ _ c.in-Ok-new.machine c.args.steps (given_of told) _ c.in-Ok-new.ensures c.in-Ok.ensures.writes run.0)
+    (stops_so _ _ _ c.in-Ok-new.machine c.args.steps (given_of told) _ c.in-Ok-new.ensures c.in-Ok.ensures.writes run.0)

@@ -27,15 +27,15 @@ loop-preserved g c =
     record {
       counts = omega arith;
       run = λ given known. (
-        let whole = image_run c.args.n c.args.self.now given in
-        let so_far = next_of whole c.args.n c.loop.counter c.loop.self _ _ given c.loop-test.true (c.loop.invariant.run given known) in
-        goes_on whole (c.args.n - (c.loop.counter + 1)) c.loop.self c.step.new.self _ _ _ given known so_far c.in-Next.ensures.row
-      );
+          let whole = image_run c.args.n c.args.self.now given in
+          let so_far = next_of whole c.args.n c.loop.counter c.loop.self _ _ given c.loop-test.true (c.loop.invariant.run given known) in
+          goes_on whole (c.args.n - (c.loop.counter + 1)) c.loop.self c.step.new.self _ _ _ given known so_far c.in-Next.ensures.row
+          );
       untouched = λ given unasked. (
-        let whole = image_run c.args.n c.args.self.now given in
-        let so_far = next_of whole c.args.n c.loop.counter c.loop.self _ _ given c.loop-test.true (c.loop.invariant.run given (inr unasked)) in
-        c.step.ensures.untouched (takes_none whole (c.args.n - (c.loop.counter + 1)) c.loop.self _ _ given so_far unasked) ∙ c.loop.invariant.untouched given unasked
-      );
+          let whole = image_run c.args.n c.args.self.now given in
+          let so_far = next_of whole c.args.n c.loop.counter c.loop.self _ _ given c.loop-test.true (c.loop.invariant.run given (inr unasked)) in
+          c.step.ensures.untouched (takes_none whole (c.args.n - (c.loop.counter + 1)) c.loop.self _ _ given so_far unasked) ∙ c.loop.invariant.untouched given unasked
+          );
       read_counted = omega (arith, c.step.ensures.read_counted);
       write_counted = omega (arith, c.step.ensures.write_counted);
     }
