@@ -1,14 +1,17 @@
--- The run of an image that asks the input for nothing.
-use Rattle.std.proofs.Common.{◌≡◌, ℕ, ◌⊎◌, inl, inr, List, Option, subst, sym, ap, ◌∙◌}
+-- The run of the image of a program.
+use Rattle.std.proofs.Common.{◌≡◌, ◌≢◌, ℕ, ◌⊎◌, inl, inr, List, Bool, Option, None, refl, subst, sym, ◌∙◌}
 use Rattle.fsc_base.specs.declared.image.Image.{Image}
-use Rattle.fsc_outside.specs.Streams.{AppendsFront}
 use Rattle.rv_run.specs.declared.stop.Stop.{Stop}
 use Rattle.rv_run.specs.declared.stop.Stop.TheVariants as stop
 use Rattle.rv_run.specs.declared.stop.TrapKind.{TrapKind}
 use Rattle.rv_run.specs.Machine.{State, start_of}
-use Rattle.rv_run.specs.ImageRun.{image_run, IsKnown, given_of}
+use Rattle.rv_run.specs.ImageRun.{ImageRun, Streams, image_run, IsKnown, given_of, Runs}
 use Rattle.rv_run.proofs.Running.{known_unasked}
 use Rattle.plain_image.specs.Writing.{Writes}
+use Rattle.fsc.specs.declared.ending.Ending.{Ending}
+use Rattle.fsc.specs.declared.ending.Ending.TheVariants.{ReadFault}
+use Rattle.fsc.specs.Ending.{ending_of, told_marks}
+use Rattle.fsc.specs.Tool.{Answers, AnswersRun, MarksOf}
 
 -- every run of the image writes these bytes and exits so
 abbrev pub RunsWrite : (bytes : List ℕ) (status : ℕ) → Image → Type 0
@@ -23,24 +26,39 @@ pub known : (bytes : List ℕ) (status : ℕ) (image : Image) (s : State) (steps
     → IsKnown told (given_of told) (image_run steps s (given_of told)).asked
 known bytes status image s steps told starts writes = known_unasked told _ (unasked bytes status image s steps (given_of told) starts writes)
 
-pub front_from_start : (s t : State) (steps : ℕ) (given : List ℕ) (before after : Option (List ℕ)) → s ≡ t
-    → AppendsFront before after (image_run steps s given).written → AppendsFront before after (image_run steps t given).written
-front_from_start s t steps given before after same h = subst (λ (u : State). AppendsFront before after (image_run steps u given).written) same h
+no_stop_call : (run : ImageRun) (bytes : List ℕ) (kind block offset width status : ℕ) → stop.StopCall kind block offset width ≡ run.stop
+    → (run.stop ≡ stop.Steps) ⊎ ((run.stop ≡ stop.Exit status) × (run.written ≡ bytes)) → ⊥
+no_stop_call run bytes kind block offset width status is (inl steps) = cc
+no_stop_call run bytes kind block offset width status is (inr exits) = let exit : run.stop ≡ stop.Exit status = exits.0 in cc
 
--- a run that writes bytes and exits stops by no call of its own and by no trap
-pub stops_so : (bytes : List ℕ) (status : ℕ) (image : Image) (s : State) (steps : ℕ) (given : List ℕ) (said : Stop) → s ≡ start_of image → RunsWrite bytes status image
-    → said ≡ (image_run steps s given).stop → (said ≡ stop.Steps) ⊎ (said ≡ stop.Exit status)
-stops_so bytes status image s steps given said starts writes is =
-    let here : said ≡ (image_run steps (start_of image) given).stop = is ∙ ap (λ (t : State). (image_run steps t given).stop) starts in
-    elim (writes steps given).ends [
-      | inl steps_out ↦ inl (here ∙ steps_out)
-      | inr exits ↦ inr (here ∙ exits.0)
-    ]
+no_trap : (run : ImageRun) (bytes : List ℕ) (kind : TrapKind) (pc status : ℕ) → stop.Trap kind pc ≡ run.stop
+    → (run.stop ≡ stop.Steps) ⊎ ((run.stop ≡ stop.Exit status) × (run.written ≡ bytes)) → ⊥
+no_trap run bytes kind pc status is (inl steps) = cc
+no_trap run bytes kind pc status is (inr exits) = let exit : run.stop ≡ stop.Exit status = exits.0 in cc
 
-pub no_stop_call : (kind block offset width status : ℕ) → (stop.StopCall kind block offset width ≡ stop.Steps) ⊎ (stop.StopCall kind block offset width ≡ stop.Exit status) → ⊥
-no_stop_call kind block offset width status (inl is) = cc
-no_stop_call kind block offset width status (inr is) = cc
+abbrev SaysRun : ImageRun → (steps : ℕ) (stats : Bool) → Ending → Option ℕ → (before after : Streams) → Type 0
+SaysRun run steps stats ending marks before after = Answers run steps ending before.written after.written × MarksOf run stats ending marks
 
-pub no_trap : (kind : TrapKind) (pc status : ℕ) → (stop.Trap kind pc ≡ stop.Steps) ⊎ (stop.Trap kind pc ≡ stop.Exit status) → ⊥
-no_trap kind pc status (inl is) = cc
-no_trap kind pc status (inr is) = cc
+says_run : (run : ImageRun) (steps : ℕ) (stats : Bool) (stopped : Stop) (machine : State) (marks : Option ℕ) (bytes : List ℕ) (status : ℕ) (before after : Streams)
+    → (run.stop ≡ stop.Steps) ⊎ ((run.stop ≡ stop.Exit status) × (run.written ≡ bytes)) → Runs run stopped machine before after
+    → marks ≡ told_marks stats stopped machine.marks → (ending_of steps stopped ≡ ReadFault → ⊥) → SaysRun run steps stats (ending_of steps stopped) marks before after
+says_run run steps stats (stop.Exit said) machine marks bytes status before after ends runs marked unread =
+    ((sym runs.0, runs.2), rw (sym runs.0, sym runs.1) marked)
+says_run run steps stats stop.Steps machine marks bytes status before after ends runs marked unread =
+    ((sym runs.0, refl, runs.2), rw (sym runs.0, sym runs.1) marked)
+says_run run steps stats (stop.StopCall kind block offset width) machine marks bytes status before after ends runs marked unread =
+    absurd (no_stop_call run bytes kind block offset width status runs.0 ends)
+says_run run steps stats (stop.Trap kind pc) machine marks bytes status before after ends runs marked unread = absurd (no_trap run bytes kind pc status runs.0 ends)
+says_run run steps stats stop.ReadFault machine marks bytes status before after ends runs marked unread = absurd (unread refl)
+says_run run steps stats stop.WriteFault machine marks bytes status before after ends runs marked unread = (runs, marked)
+says_run run steps stats stop.NoMemory machine marks bytes status before after ends runs marked unread = (runs, marked)
+
+-- the answer of a machine's run from the start of the image
+pub says : (bytes : List ℕ) (status : ℕ) (image : Image) (s : State) (steps : ℕ) (stats : Bool) (given : List ℕ) (ending : Ending) (marks : Option ℕ) (before after : Streams)
+    → s ≡ start_of image → RunsWrite bytes status image → AnswersRun (image_run steps s given) steps stats ending marks before after → (ending ≡ ReadFault → ⊥)
+    → SaysRun (image_run steps (start_of image) given) steps stats ending marks before after
+says bytes status image s steps stats given ending marks before after starts writes answers unread =
+    let here = subst (λ (t : State). AnswersRun (image_run steps t given) steps stats ending marks before after) starts answers in
+    let run = image_run steps (start_of image) given in
+    subst (λ (e : Ending). SaysRun run steps stats e marks before after) (sym here.answer)
+      (says_run run steps stats here.stopped here.machine marks bytes status before after (writes steps given).ends here.runs here.marked (λ is. unread (here.answer ∙ is)))

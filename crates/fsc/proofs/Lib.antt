@@ -1,5 +1,2 @@
-mod Asking
 mod Going
-mod Performing
-mod Promises
-mod Refusing
+mod Noting

@@ -1,20 +1,26 @@
 -- What the tool is asked for, and what it answers, makes and writes.
--- `told` is the map of the files where the object tells it, `given` what the input has left where it tells, `before`
--- and `after` what the output holds where it tells.
-use Rattle.std.specs.Prelude.{◌≡◌, ◌≢◌, ℕ, ◌≤◌, ◌⊎◌, List, [], take, length, Option, Some, None}
+-- `told` is the map of the files where the object tells it; `before` and `after` are what the input has left and the
+-- output holds, where they tell.
+use Rattle.std.specs.Prelude.{◌≡◌, ◌≢◌, ℕ, ◌≤◌, ◌⊎◌, List, [], ◌++◌, take, length, Bool, Option, Some, None, Result, Ok, Err}
 use Rattle.fsc_base.specs.declared.image.Image.{Image}
 use Rattle.fsc_outside.specs.FileMap.{FileMap, Holds}
 use Rattle.fsc_outside.specs.Streams.{Appends, AppendsFront}
+use Rattle.elf_image.specs.declared.fault.ReadElfNo.{ReadElfNo}
+use Rattle.elf_image.specs.declared.fault.ReadElfNo.TheVariants as elf
+use Rattle.elf_image.specs.Reading.{image_at}
+use Rattle.rv_run.specs.declared.stop.Stop.{Stop}
 use Rattle.rv_run.specs.declared.stop.Stop.TheVariants as stop
-use Rattle.rv_run.specs.Machine.{start_of}
-use Rattle.rv_run.specs.ImageRun.{ImageRun, image_run}
+use Rattle.rv_run.specs.Machine.{State, start_of}
+use Rattle.rv_run.specs.ImageRun.{ImageRun, Streams, image_run, IsKnown, given_of, Runs}
 use Rattle.plain_text.specs.declared.program.Program.{Program}
 use Rattle.plain_text.specs.Program.{IsPlain}
 use Rattle.plain_image.specs.Writing.{Writes}
 use Rattle.fsc.specs.declared.ending.Ending.{Ending}
-use Rattle.fsc.specs.declared.ending.Ending.TheVariants.{Exited, StepsUsed, Usage, MissingFile, FileFault, WriteFault, NoteFault, NotBuilt, NoMemory}
-use Rattle.fsc.specs.Words.{IsUsable, Asks}
-use Rattle.fsc.specs.Ending.{note_of}
+use Rattle.fsc.specs.declared.ending.Ending.TheVariants.{Exited, Stopped, OutOfStorage, StepsUsed, Usage, MissingFile, FileFault, ReadFault, WriteFault, NoteFault, BadImage, Trap, NotBuilt, NoMemory}
+use Rattle.fsc.specs.Words.{Asks, AsksRun}
+use Rattle.fsc.specs.Ending.{ending_of, told_marks, note_of, marks_line}
+
+-- ---- `go`
 
 -- a run of a file's program
 pub record Job : Type 0 where
@@ -25,7 +31,6 @@ pub record Job : Type 0 where
 
 -- The words and the files ask for it: the file has the text, if the files are told, and the text is the program's.
 pub record IsAsked (words : List (List ℕ)) (told : Option FileMap) (job : Job) : Type 0 where
-  pub usable : IsUsable words
   pub request : Asks words job.file job.steps
   pub text : Holds told job.file (Some job.text)
   pub plain : IsPlain job.text job.program
@@ -37,33 +42,100 @@ IsImageOf program image = (n : ℕ) (input : List ℕ) → Writes program.bytes 
 -- The answer and what was written are those of the run. After a refusal of the outside a front of it was written.
 abbrev pub Answers : ImageRun → (steps : ℕ) → Ending → (before after : Option (List ℕ)) → Type 0
 Answers run steps (Exited status) before after = (run.stop ≡ stop.Exit status) × Appends before after run.written
+Answers run steps (Stopped kind block offset width) before after = ⊥
+Answers run steps (OutOfStorage storage) before after = ⊥
 Answers run steps (StepsUsed n) before after = (run.stop ≡ stop.Steps) × (n ≡ steps) × Appends before after run.written
-Answers run steps WriteFault before after = AppendsFront before after run.written
-Answers run steps NoteFault before after = AppendsFront before after run.written
-Answers run steps NoMemory before after = AppendsFront before after run.written
 Answers run steps Usage before after = ⊥
 Answers run steps (MissingFile name) before after = ⊥
 Answers run steps (FileFault name) before after = ⊥
+Answers run steps ReadFault before after = ⊥
+Answers run steps WriteFault before after = AppendsFront before after run.written
+Answers run steps NoteFault before after = ⊥
+Answers run steps (BadImage fault offset) before after = ⊥
+Answers run steps (Trap kind pc) before after = ⊥
 Answers run steps (NotBuilt form) before after = ⊥
+Answers run steps NoMemory before after = AppendsFront before after run.written
+
+-- the marks of a run that came to its end or its bound, if the words ask for them
+abbrev pub MarksOf : ImageRun → (stats : Bool) → Ending → Option ℕ → Type 0
+MarksOf run stats (Exited status) marks = marks ≡ told_marks stats run.stop run.machine.marks
+MarksOf run stats (Stopped kind block offset width) marks = marks ≡ None
+MarksOf run stats (OutOfStorage storage) marks = marks ≡ None
+MarksOf run stats (StepsUsed n) marks = marks ≡ told_marks stats run.stop run.machine.marks
+MarksOf run stats Usage marks = marks ≡ None
+MarksOf run stats (MissingFile name) marks = marks ≡ None
+MarksOf run stats (FileFault name) marks = marks ≡ None
+MarksOf run stats ReadFault marks = marks ≡ None
+MarksOf run stats WriteFault marks = marks ≡ None
+MarksOf run stats NoteFault marks = marks ≡ None
+MarksOf run stats (BadImage fault offset) marks = marks ≡ None
+MarksOf run stats (Trap kind pc) marks = marks ≡ None
+MarksOf run stats (NotBuilt form) marks = marks ≡ None
+MarksOf run stats NoMemory marks = marks ≡ None
 
 -- an answer that comes with no run
 abbrev pub IsRefusal : Ending → Type 0
 IsRefusal (Exited status) = ⊥
+IsRefusal (Stopped kind block offset width) = ⊥
+IsRefusal (OutOfStorage storage) = ⊥
 IsRefusal (StepsUsed n) = ⊥
-IsRefusal WriteFault = ⊥
-IsRefusal NoteFault = Unit {0}
-IsRefusal NoMemory = Unit {0}
 IsRefusal Usage = Unit {0}
 IsRefusal (MissingFile name) = Unit {0}
 IsRefusal (FileFault name) = Unit {0}
+IsRefusal ReadFault = ⊥
+IsRefusal WriteFault = ⊥
+IsRefusal NoteFault = ⊥
+IsRefusal (BadImage fault offset) = ⊥
+IsRefusal (Trap kind pc) = ⊥
 IsRefusal (NotBuilt form) = Unit {0}
+IsRefusal NoMemory = Unit {0}
 
--- Either no image was made and nothing was written, or the image is that of a job that is asked for, and the answer and
--- what was written are those of its run.
-abbrev pub IsRunOf : Option Image → Ending → (words : List (List ℕ)) (told : Option FileMap) (given : List ℕ) (before after : Option (List ℕ)) → Type 0
-IsRunOf None ending words told given before after = IsRefusal ending × Appends before after []
-IsRunOf (Some image) ending words told given before after =
-    (job : Job) × IsAsked words told job × IsImageOf job.program image × Answers (image_run job.steps (start_of image) given) job.steps ending before after
+-- ---- `run`
+
+-- the machine stopped so over an image, and the answer and the marks say it
+pub record AnswersRun (run : ImageRun) (steps : ℕ) (stats : Bool) (ending : Ending) (marks : Option ℕ) (before after : Streams) : Type 0 where
+  pub stopped : Stop
+  pub machine : State
+  pub runs : Runs run stopped machine before after
+  pub answer : ending ≡ ending_of steps stopped
+  pub marked : marks ≡ told_marks stats stopped machine.marks
+
+-- nothing was taken, written or counted
+abbrev pub LeavesAll : Ending → Ending → Option ℕ → (before after : Streams) → Type 0
+LeavesAll said ending marks before after = (ending ≡ said) × (marks ≡ None) × (after ≡ before)
+
+-- The file's bytes are an image, which ran so, or they have a fault. Memory may be refused first.
+abbrev pub RunsImage : Result Image ReadElfNo → (steps : ℕ) (stats : Bool) → Ending → Option ℕ → (before after : Streams) → Type 0
+RunsImage (Ok image) steps stats ending marks before after =
+    LeavesAll NoMemory ending marks before after
+    ⊎ ((given : List ℕ) → IsKnown before.left given (image_run steps (start_of image) given).asked →
+      AnswersRun (image_run steps (start_of image) given) steps stats ending marks before after)
+RunsImage (Err (elf.Bad fault offset)) steps stats ending marks before after =
+    LeavesAll NoMemory ending marks before after ⊎ LeavesAll (BadImage fault offset) ending marks before after
+RunsImage (Err elf.NoMemory) steps stats ending marks before after = LeavesAll NoMemory ending marks before after
+
+-- a run of an image that the words ask for, whose file has these bytes if the files are told
+pub record IsImageRun (ending : Ending) (marks : Option ℕ) (words : List (List ℕ)) (told : Option FileMap) (before after : Streams) : Type 0 where
+  pub file : List ℕ
+  pub steps : ℕ
+  pub stats : Bool
+  pub bytes : List ℕ
+  pub request : AsksRun words file steps stats
+  pub text : Holds told file (Some bytes)
+  pub runs : RunsImage (image_at bytes) steps stats ending marks before after
+
+-- ---- both
+
+-- Either nothing was made, taken and written, or the image of a file ran, or the image that was made is that of a job
+-- that is asked for, and the answer and what was written are those of its run.
+abbrev pub IsRunOf : Option Image → Ending → Option ℕ → (words : List (List ℕ)) (told : Option FileMap) (before after : Streams) → Type 0
+IsRunOf None ending marks words told before after =
+    (IsRefusal ending × (marks ≡ None) × (after ≡ before)) ⊎ IsImageRun ending marks words told before after
+IsRunOf (Some image) ending marks words told before after =
+    (job : Job) × IsAsked words told job × IsImageOf job.program image
+    × Answers (image_run job.steps (start_of image) (given_of before.left)) job.steps ending before.written after.written
+    × (after.left ≡ before.left)
+    × ((stats : Bool) × MarksOf (image_run job.steps (start_of image) (given_of before.left)) stats ending marks)
 
 -- at least j of the bytes were written, from their front
 abbrev pub AppendsAtLeast : (j : ℕ) (before after : Option (List ℕ)) (bytes : List ℕ) → Type 0
@@ -72,14 +144,19 @@ AppendsAtLeast j before after bytes = (n : ℕ) × (j ≤ n) × (n ≤ length by
 -- the run came to its end or its bound, or memory was refused
 abbrev pub IsEnd : Ending → Type 0
 IsEnd (Exited status) = Unit {0}
+IsEnd (Stopped kind block offset width) = ⊥
+IsEnd (OutOfStorage storage) = ⊥
 IsEnd (StepsUsed n) = Unit {0}
-IsEnd NoMemory = Unit {0}
 IsEnd Usage = ⊥
 IsEnd (MissingFile name) = ⊥
 IsEnd (FileFault name) = ⊥
+IsEnd ReadFault = ⊥
 IsEnd WriteFault = ⊥
 IsEnd NoteFault = ⊥
+IsEnd (BadImage fault offset) = ⊥
+IsEnd (Trap kind pc) = ⊥
 IsEnd (NotBuilt form) = ⊥
+IsEnd NoMemory = Unit {0}
 
 -- The ending, or what took its place where its line could not be written or memory was refused.
 abbrev pub IsUnless : Ending → Ending → Type 0
@@ -89,14 +166,23 @@ IsUnless said ending = (ending ≡ said) ⊎ ((ending ≡ NoteFault) ⊎ (ending
 abbrev pub IsUnlessFault : Ending → Ending → Type 0
 IsUnlessFault said ending = IsUnless said ending ⊎ ((name : List ℕ) × (ending ≡ FileFault name))
 
--- The line of the ending was written to the notes, or a front of some line where that could not be.
-abbrev pub IsNoted : Ending → (before after : Option (List ℕ)) → Type 0
-IsNoted (Exited status) before after = Appends before after []
-IsNoted (StepsUsed n) before after = Appends before after (note_of (StepsUsed n))
-IsNoted Usage before after = Appends before after (note_of Usage)
-IsNoted (MissingFile name) before after = Appends before after (note_of (MissingFile name))
-IsNoted (FileFault name) before after = Appends before after (note_of (FileFault name))
-IsNoted WriteFault before after = Appends before after (note_of WriteFault)
-IsNoted (NotBuilt form) before after = Appends before after (note_of (NotBuilt form))
-IsNoted NoteFault before after = (said : Ending) × AppendsFront before after (note_of said)
-IsNoted NoMemory before after = (said : Ending) × AppendsFront before after (note_of said)
+-- the lines of an ending, after that of the marks if they are told
+abbrev pub notes_of : Option ℕ → Ending → List ℕ
+notes_of marks ending = marks_line marks ++ note_of ending
+
+-- The lines were written to the notes, or a front of some lines where that could not be.
+abbrev pub IsNoted : Option ℕ → Ending → (before after : Option (List ℕ)) → Type 0
+IsNoted marks (Exited status) before after = Appends before after (notes_of marks (Exited status))
+IsNoted marks (Stopped kind block offset width) before after = Appends before after (notes_of marks (Stopped kind block offset width))
+IsNoted marks (OutOfStorage storage) before after = Appends before after (notes_of marks (OutOfStorage storage))
+IsNoted marks (StepsUsed n) before after = Appends before after (notes_of marks (StepsUsed n))
+IsNoted marks Usage before after = Appends before after (notes_of marks Usage)
+IsNoted marks (MissingFile name) before after = Appends before after (notes_of marks (MissingFile name))
+IsNoted marks (FileFault name) before after = Appends before after (notes_of marks (FileFault name))
+IsNoted marks ReadFault before after = Appends before after (notes_of marks ReadFault)
+IsNoted marks WriteFault before after = Appends before after (notes_of marks WriteFault)
+IsNoted marks NoteFault before after = (said : Ending) × AppendsFront before after (notes_of marks said)
+IsNoted marks (BadImage fault offset) before after = Appends before after (notes_of marks (BadImage fault offset))
+IsNoted marks (Trap kind pc) before after = Appends before after (notes_of marks (Trap kind pc))
+IsNoted marks (NotBuilt form) before after = Appends before after (notes_of marks (NotBuilt form))
+IsNoted marks NoMemory before after = (said : Ending) × AppendsFront before after (notes_of marks said)

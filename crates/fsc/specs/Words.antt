@@ -1,42 +1,32 @@
--- The words of the command line.
-use Rattle.std.specs.Prelude.{◌≡◌, ◌≢◌, ℕ, ◌^◌, ◌<◌, ◌≤◌, ◌⊎◌, List, [], ◌∷◌, length, All, Some, slice_get, codes}
-use Rattle.std.specs.Str.{IsUtf8}
-use Rattle.std.specs.Fmt.{decimal}
+-- What the words ask for, as the command lines are read.
+use Rattle.std.specs.Prelude.{◌≢◌, ℕ, ◌⊎◌, List, [], ◌∷◌, length, Bool}
+use Rattle.command_line.specs.Requests.{Listed}
+use Rattle.command_line.specs.declared.request.Request.{Request}
+use Rattle.command_line.specs.declared.request.Request.TheVariants as request
 
--- the six commands
-abbrev pub IsCommand : List ℕ → Type 0
-IsCommand word = (word ≡ codes "build") ⊎ ((word ≡ codes "compile") ⊎ ((word ≡ codes "link") ⊎
-    ((word ≡ codes "run") ⊎ ((word ≡ codes "go") ⊎ (word ≡ codes "demo")))))
+-- `go` with this one file, of at most so many instructions
+abbrev pub AsksWith : List (List ℕ) → (file : List ℕ) (steps : ℕ) (stats : Bool) → Type 0
+AsksWith words file steps stats = Listed words (request.Go steps stats (file ∷ []))
 
--- the first word is a command
-abbrev pub BeginsWithCommand : List (List ℕ) → Type 0
-BeginsWithCommand [] = ⊥
-BeginsWithCommand (word ∷ words) = IsCommand word
-
--- a word is UTF-8
-unfoldable pub IsText : List ℕ → Type 0
-IsText word = IsUtf8 word
-
--- at most 1,000 words, each of them text, and a command first
-pub record IsUsable (words : List (List ℕ)) : Type 0 where
-  pub few : length words ≤ 1000
-  pub texts : All IsText words
-  pub command : BeginsWithCommand words
-
--- a name of a file doesn't begin as an option does
-abbrev pub IsFileWord : List ℕ → Type 0
-IsFileWord word = slice_get word 0 ≢ Some 45
-
--- how many instructions run at most where the words don't say
-abbrev pub default_steps : ℕ
-default_steps = 10 ^ 10
-
-abbrev pub most_steps : ℕ
-most_steps = 10 ^ 12
-
--- The words ask for a run of the file of at most so many instructions: `go FILE` or `go --steps N FILE`.
 abbrev pub Asks : List (List ℕ) → (file : List ℕ) (steps : ℕ) → Type 0
-Asks words file steps =
-    IsFileWord file ×
-    (((words ≡ codes "go" ∷ file ∷ []) × (steps ≡ default_steps)) ⊎
-    ((words ≡ codes "go" ∷ codes "--steps" ∷ decimal steps ∷ file ∷ []) × (0 < steps) × (steps ≤ most_steps)))
+Asks words file steps = (stats : Bool) × AsksWith words file steps stats
+
+-- `run` of this image, of at most so many instructions
+abbrev pub AsksRun : List (List ℕ) → (image : List ℕ) (steps : ℕ) (stats : Bool) → Type 0
+AsksRun words image steps stats = Listed words (request.Run steps stats image)
+
+-- what is not built yet: four commands, and `go` of several files
+abbrev pub IsUnbuiltRequest : Request → Type 0
+IsUnbuiltRequest (request.Build image files) = Unit {0}
+IsUnbuiltRequest (request.Compile unit file) = Unit {0}
+IsUnbuiltRequest (request.Link image units) = Unit {0}
+IsUnbuiltRequest (request.Run steps stats image) = ⊥
+IsUnbuiltRequest (request.Go steps stats files) = length files ≢ 1
+IsUnbuiltRequest (request.Demo count) = Unit {0}
+
+abbrev pub IsUnbuilt : List (List ℕ) → Type 0
+IsUnbuilt words = (asked : Request) × Listed words asked × IsUnbuiltRequest asked
+
+-- the file is one to be read
+abbrev pub NamesToRead : List (List ℕ) → (file : List ℕ) → Type 0
+NamesToRead words file = ((steps : ℕ) × Asks words file steps) ⊎ ((steps : ℕ) × (stats : Bool) × AsksRun words file steps stats)

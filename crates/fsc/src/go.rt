@@ -3,15 +3,17 @@
 ghost use Rattle.std.specs.Prelude.{◌≡◌, ◌≢◌, ◌≤◌, length, IfOk, IfErr, None};
 ghost use Rattle.fsc_outside.specs.Counts.{Rose};
 ghost use Rattle.rv_run.specs.ImageRun.{given_of};
-ghost use Rattle.fsc.specs.Performing.{NamesFile, RefusesText, GivesProgram, RefusesFile, Runs, RunsFile};
+ghost use Rattle.fsc.specs.Performing.{RefusesText, GivesProgram, RefusesFile, RunsProgram, RunsFile};
 ghost use Rattle.plain_text.specs.Program.{IsPlain};
 
 use crate::ending::{Ending, Form};
-use fsc_base::{Image, Name, NoMemory};
-use fsc_outside::{Files, Got, Sink, Source};
+use crate::reading::read_file;
+use crate::running::{Done, run_machine};
+use fsc_base::{Image, Name};
+use fsc_outside::{Files, Sink, Source};
 use plain_image::image;
 use plain_text::{Program, ReadNo, read_program};
-use rv_run::{Machine, Stop};
+use rv_run::Machine;
 use std::alloc::Global;
 
 /// The program of a text, or the refusal of it.
@@ -23,26 +25,6 @@ fn program_of(alloc: Global, text: &[u8]) -> Result<Program, Ending>
         Ok(program) => Ok(program),
         Err(ReadNo::NotPlain) => Err(Ending::NotBuilt(Form::Text)),
         Err(ReadNo::NoMemory) => Err(Ending::NoMemory),
-    }
-}
-
-/// The ending where there is no file of that name.
-fn missing(alloc: Global, name: &Name) -> Ending
-    ensures { NamesFile Ending.MissingFile name.now result }
-{
-    match Name::from_slice(alloc, name.as_slice()) {
-        Ok(name) => Ending::MissingFile(name),
-        Err(NoMemory) => Ending::NoMemory,
-    }
-}
-
-/// The ending where the file of that name could not be read.
-fn faulty(alloc: Global, name: &Name) -> Ending
-    ensures { NamesFile Ending.FileFault name.now result }
-{
-    match Name::from_slice(alloc, name.as_slice()) {
-        Ok(name) => Ending::FileFault(name),
-        Err(NoMemory) => Ending::NoMemory,
     }
 }
 
@@ -61,11 +43,9 @@ fn read<F: Files>(alloc: Global, files: &mut F, file: &Name) -> Result<Program, 
     ensures faults_counted { F.fault_count files.old ≤ F.fault_count files.new }
     ensures absences_counted { F.absence_count files.old ≤ F.absence_count files.new }
 {
-    match files.read(file) {
-        Got::Found(text) => program_of(alloc, text.as_slice()),
-        Got::Absent => Err(missing(alloc, file)),
-        Got::Failed => Err(faulty(alloc, file)),
-        Got::NoMemory => Err(Ending::NoMemory),
+    match read_file(alloc, files, file) {
+        Ok(text) => program_of(alloc, text.as_slice()),
+        Err(ending) => Err(ending),
     }
 }
 
@@ -74,34 +54,28 @@ fn run<S: Source, O: Sink>(
     alloc: Global,
     program: &Program,
     steps: u64,
+    stats: bool,
     input: &mut S,
     out: &mut O,
     made: &mut Option<Image>,
-) -> Ending
+) -> Done
     requires few { length program.now.bytes ≤ 1000 }
     requires none { made.old ≡ None }
-    ensures runs { Runs made.new result program.now steps (given_of (S.left input.old)) (O.written out.old) (O.written out.new) }
-    ensures failed { result ≡ Ending.WriteFault → Rose (O.fault_count out.old) (O.fault_count out.new) }
-    ensures unnoted { result ≢ Ending.NoteFault }
+    ensures runs { RunsProgram made.new result.ending result.marks program.now steps stats (given_of (S.left input.old)) (O.written out.old) (O.written out.new) }
+    ensures failed { result.ending ≡ Ending.WriteFault → Rose (O.fault_count out.old) (O.fault_count out.new) }
+    ensures unnoted { result.ending ≢ Ending.NoteFault }
+    ensures unread { result.ending ≢ Ending.ReadFault }
     ensures counted { O.fault_count out.old ≤ O.fault_count out.new }
     ensures untouched { input.new ≡ input.old }
 {
     let Ok(image) = image(alloc, program.bytes.as_slice(), program.status) else {
-        return Ending::NoMemory;
+        return Done::without_run(Ending::NoMemory);
     };
     let Ok(mut machine) = Machine::new(alloc, &image) else {
-        return Ending::NoMemory;
+        return Done::without_run(Ending::NoMemory);
     };
     *made = Some(image);
-    match machine.run(steps, input, out) {
-        Stop::Exit(status) => Ending::Exited(status),
-        Stop::Steps => Ending::StepsUsed(steps),
-        Stop::WriteFault => Ending::WriteFault,
-        Stop::NoMemory => Ending::NoMemory,
-        Stop::ReadFault => unreachable!(),
-        Stop::StopCall { .. } => unreachable!(),
-        Stop::Trap { .. } => unreachable!(),
-    }
+    run_machine(&mut machine, steps, stats, input, out)
 }
 
 /// Runs the program in a file, at most `steps` instructions of it, and leaves its image in `made`, or answers why there is none.
@@ -109,13 +83,14 @@ pub fn go<F: Files, S: Source, O: Sink>(
     alloc: Global,
     file: &Name,
     steps: u64,
+    stats: bool,
     files: &mut F,
     input: &mut S,
     out: &mut O,
     made: &mut Option<Image>,
-) -> Ending
+) -> Done
     requires { made.old ≡ None }
-    ensures ran { RunsFile made.new result file.now steps (record {
+    ensures ran { RunsFile made.new result.ending result.marks file.now steps stats (record {
       told = F.contents files.old;
       blamed = F.blamed files.new;
       faults_before = F.fault_count files.old;
@@ -123,8 +98,9 @@ pub fn go<F: Files, S: Source, O: Sink>(
       absences_before = F.absence_count files.old;
       absences_after = F.absence_count files.new;
     }) (given_of (S.left input.old)) (O.written out.old) (O.written out.new) }
-    ensures failed { result ≡ Ending.WriteFault → Rose (O.fault_count out.old) (O.fault_count out.new) }
-    ensures unnoted { result ≢ Ending.NoteFault }
+    ensures failed { result.ending ≡ Ending.WriteFault → Rose (O.fault_count out.old) (O.fault_count out.new) }
+    ensures unnoted { result.ending ≢ Ending.NoteFault }
+    ensures unread { result.ending ≢ Ending.ReadFault }
     ensures kept { F.contents files.new ≡ F.contents files.old }
     ensures faults_counted { F.fault_count files.old ≤ F.fault_count files.new }
     ensures absences_counted { F.absence_count files.old ≤ F.absence_count files.new }
@@ -132,7 +108,7 @@ pub fn go<F: Files, S: Source, O: Sink>(
     ensures untouched { input.new ≡ input.old }
 {
     match read(alloc, files, file) {
-        Ok(program) => run(alloc, &program, steps, input, out, made),
-        Err(ending) => ending,
+        Ok(program) => run(alloc, &program, steps, stats, input, out, made),
+        Err(ending) => Done::without_run(ending),
     }
 }

@@ -1,13 +1,15 @@
 //! `fsc`: a memory-safe C90 compiler whose images run as C over blocks of bytes says. So far it reads one form of
-//! program, makes its image in memory and runs it.
+//! program, makes its image in memory and runs it, and it runs the images of all programs.
 #![tactic(auto)]
 
 mod arguments;
 mod ending;
 mod go;
 mod note;
+mod reading;
+mod run;
+mod running;
 mod tool;
-mod words;
 
 use ending::{Ending, status};
 use fsc_outside::{DiskFiles, InputSource, OutputSink};
@@ -27,7 +29,7 @@ fn main(rt: HostRuntime) -> ExitCode {
         Ok(words) => tool(
             alloc, &words, &mut files, &mut input, &mut out, &mut notes, &mut made,
         ),
-        Err(_) => report(alloc, &mut notes, Ending::NoMemory),
+        Err(_) => report(alloc, &mut notes, Ending::NoMemory, None),
     };
     drop(made);
     ExitCode::from(status(&ending))
