@@ -13,3 +13,5 @@ pub use stop::{Step, Stop, TrapKind};
 
 #[cfg(test)]
 mod tests;
+#[cfg(test)]
+mod words;
