@@ -46,8 +46,8 @@ fn call(alloc: Global, line: &[u8], text: &[u8], outside: &Outside) -> Result<Ou
     );
     let mut files = MemFiles::new(alloc, &[file], outside.files)?;
     let mut input = MemSource::new(alloc, b"left", &[])?;
-    let mut out = MemSink::slow(alloc, outside.out, outside.most)?;
-    let mut notes = MemSink::slow(alloc, outside.notes, outside.most)?;
+    let mut out = MemSink::slow(alloc, outside.out, outside.most.max(1))?;
+    let mut notes = MemSink::slow(alloc, outside.notes, outside.most.max(1))?;
     let mut made = None;
     let ending = tool(
         alloc, &words, &mut files, &mut input, &mut out, &mut notes, &mut made,
