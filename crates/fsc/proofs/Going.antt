@@ -61,4 +61,4 @@ says bytes status image s steps stats given ending marks before after starts wri
     let here = subst (λ (t : State). AnswersRun (image_run steps t given) steps stats ending marks before after) starts answers in
     let run = image_run steps (start_of image) given in
     subst (λ (e : Ending). SaysRun run steps stats e marks before after) (sym here.answer)
-      (says_run run steps stats here.stopped here.machine marks bytes status before after (writes steps given).ends here.runs here.marked (λ is. unread (here.answer ∙ is)))
+    (says_run run steps stats here.stopped here.machine marks bytes status before after (writes steps given).ends here.runs here.marked (λ is. unread (here.answer ∙ is)))

@@ -104,12 +104,29 @@ pub record AnswersRun (run : ImageRun) (steps : ℕ) (stats : Bool) (ending : En
 abbrev pub LeavesAll : Ending → Ending → Option ℕ → (before after : Streams) → Type 0
 LeavesAll said ending marks before after = (ending ≡ said) × (marks ≡ None) × (after ≡ before)
 
+-- an ending that a run may have
+abbrev pub IsOfRun : Ending → Type 0
+IsOfRun (Exited status) = Unit {0}
+IsOfRun (Stopped kind block offset width) = Unit {0}
+IsOfRun (OutOfStorage storage) = Unit {0}
+IsOfRun (StepsUsed n) = Unit {0}
+IsOfRun Usage = ⊥
+IsOfRun (MissingFile name) = ⊥
+IsOfRun (FileFault name) = ⊥
+IsOfRun ReadFault = Unit {0}
+IsOfRun WriteFault = Unit {0}
+IsOfRun NoteFault = ⊥
+IsOfRun (BadImage fault offset) = ⊥
+IsOfRun (Trap kind pc) = Unit {0}
+IsOfRun (NotBuilt form) = ⊥
+IsOfRun NoMemory = Unit {0}
+
 -- The file's bytes are an image, which ran so, or they have a fault. Memory may be refused first.
 abbrev pub RunsImage : Result Image ReadElfNo → (steps : ℕ) (stats : Bool) → Ending → Option ℕ → (before after : Streams) → Type 0
 RunsImage (Ok image) steps stats ending marks before after =
     LeavesAll NoMemory ending marks before after
-    ⊎ ((given : List ℕ) → IsKnown before.left given (image_run steps (start_of image) given).asked →
-      AnswersRun (image_run steps (start_of image) given) steps stats ending marks before after)
+    ⊎ (IsOfRun ending × ((given : List ℕ) → IsKnown before.left given (image_run steps (start_of image) given).asked →
+    AnswersRun (image_run steps (start_of image) given) steps stats ending marks before after))
 RunsImage (Err (elf.Bad fault offset)) steps stats ending marks before after =
     LeavesAll NoMemory ending marks before after ⊎ LeavesAll (BadImage fault offset) ending marks before after
 RunsImage (Err elf.NoMemory) steps stats ending marks before after = LeavesAll NoMemory ending marks before after

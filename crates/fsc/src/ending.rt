@@ -2,6 +2,7 @@
 
 ghost use Rattle.std.specs.Prelude.{◌≡◌};
 ghost use Rattle.fsc.specs.Ending.{status_of, ending_of, stopped_as};
+ghost use Rattle.fsc.specs.Tool.{IsOfRun};
 
 use elf_image::ElfFault;
 use fsc_base::Name;
@@ -69,9 +70,15 @@ pub enum Ending {
     /// The notes refused a write.
     NoteFault,
     /// The file is no image: its first fault, and where in the file, in bytes.
-    BadImage { fault: ElfFault, offset: u32 },
+    BadImage {
+        fault: ElfFault,
+        offset: u32,
+    },
     /// The machine has no row for what the image asks of it at this pc.
-    Trap { kind: TrapKind, pc: u32 },
+    Trap {
+        kind: TrapKind,
+        pc: u32,
+    },
     /// The command or the text is outside what is built so far.
     NotBuilt(Form),
     /// No memory was left.
@@ -100,7 +107,8 @@ pub fn status(ending: &Ending) -> u8
 
 /// The ending of a program that stopped itself with a kind from 1 to 7.
 fn stopped(kind: u32, block: u32, offset: u32, width: u32) -> Ending
-    ensures { result ≡ stopped_as kind block offset width }
+    ensures stopped { result ≡ stopped_as kind block offset width }
+    ensures of_run { IsOfRun result }
 {
     let kind = match kind {
         1 => StopKind::Access,
@@ -121,7 +129,8 @@ fn stopped(kind: u32, block: u32, offset: u32, width: u32) -> Ending
 
 /// The ending of a run of at most `steps` instructions that stopped so.
 pub fn ending_of(steps: u64, stop: Stop) -> Ending
-    ensures { result ≡ ending_of steps stop }
+    ensures ending { result ≡ ending_of steps stop }
+    ensures of_run { IsOfRun result }
 {
     match stop {
         Stop::Exit(status) => Ending::Exited(status),

@@ -172,7 +172,12 @@ fn note(alloc: Global, ending: &Ending) -> Result<Vec<u8>, NoMemory>
 {
     let mut line = match ending {
         Ending::Exited(_) | Ending::NoteFault => return Ok(Vec::new(alloc)),
-        Ending::Stopped { kind, block, offset, width } => stop_text_of(alloc, *kind, *block, *offset, *width)?,
+        Ending::Stopped {
+            kind,
+            block,
+            offset,
+            width,
+        } => stop_text_of(alloc, *kind, *block, *offset, *width)?,
         Ending::OutOfStorage(storage) => joined(alloc, storage_text(*storage), b"")?,
         Ending::StepsUsed(n) => numbered(alloc, b"steps", *n)?,
         Ending::Usage => joined(alloc, b"usage", b"")?,

@@ -62,7 +62,10 @@ fn run_bytes<S: Source, O: Sink>(
     drop(bytes);
     match image {
         Ok(image) => run_image(alloc, image, steps, stats, input, out),
-        Err(ReadElfNo::Bad { fault, offset }) => Done::without_run(Ending::BadImage { fault, offset }),
+        Err(ReadElfNo::Bad { fault, offset }) => Done::without_run(Ending::BadImage {
+            fault,
+            offset,
+        }),
         Err(ReadElfNo::NoMemory) => Done::without_run(Ending::NoMemory),
     }
 }

@@ -4,7 +4,7 @@ ghost use Rattle.std.specs.Prelude.{◌≡◌, ◌≢◌, ℕ, ◌+◌, ◌^◌,
 ghost use Rattle.fsc_outside.specs.Counts.{Rose};
 ghost use Rattle.rv_run.specs.ImageRun.{image_run, IsKnown};
 ghost use Rattle.fsc.specs.Ending.{told_marks};
-ghost use Rattle.fsc.specs.Tool.{AnswersRun};
+ghost use Rattle.fsc.specs.Tool.{AnswersRun, IsOfRun};
 
 use crate::ending::{Ending, ending_of};
 use fsc_outside::{Sink, Source};
@@ -36,7 +36,9 @@ fn marks_of(stats: bool, stop: Stop, marks: u64) -> Option<u64>
 {
     match stop {
         Stop::ReadFault | Stop::WriteFault | Stop::NoMemory => None,
-        Stop::Exit(_) | Stop::StopCall { .. } | Stop::Steps | Stop::Trap { .. } => stats.then_some(marks),
+        Stop::Exit(_) | Stop::StopCall { .. } | Stop::Steps | Stop::Trap { .. } => stats.then_some(
+            marks,
+        ),
     }
 }
 
@@ -52,6 +54,7 @@ pub fn run_machine<S: Source, O: Sink>(
     ensures answers { (given : List ℕ) → IsKnown (S.left input.old) given (image_run steps machine.old given).asked →
         AnswersRun (image_run steps machine.old given) steps stats result.ending result.marks
         (record { left = S.left input.old; written = O.written out.old }) (record { left = S.left input.new; written = O.written out.new }) }
+    ensures of_run { IsOfRun result.ending }
     ensures read_failed { result.ending ≡ Ending.ReadFault → Rose (S.fault_count input.old) (S.fault_count input.new) }
     ensures write_failed { result.ending ≡ Ending.WriteFault → Rose (O.fault_count out.old) (O.fault_count out.new) }
     ensures unnoted { result.ending ≢ Ending.NoteFault }

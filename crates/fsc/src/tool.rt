@@ -52,11 +52,23 @@ fn perform<F: Files, S: Source, O: Sink>(
     ensures untouched { ((file : List ℕ) (steps : ℕ) (stats : Bool) → AsksRun words.now file steps stats → ⊥) → input.new ≡ input.old }
 {
     match request_of(alloc, words) {
-        Ok(Request::Go { steps, stats, files: names }) => match names.as_slice() {
+        Ok(
+            Request::Go {
+                steps,
+                stats,
+                files: names,
+            },
+        ) => match names.as_slice() {
             [file] => go(alloc, file, steps, stats, files, input, out, made),
             _ => Done::without_run(Ending::NotBuilt(Form::Command)),
         },
-        Ok(Request::Run { steps, stats, image }) => run_file(alloc, &image, steps, stats, files, input, out),
+        Ok(
+            Request::Run {
+                steps,
+                stats,
+                image,
+            },
+        ) => run_file(alloc, &image, steps, stats, files, input, out),
         Ok(_) => Done::without_run(Ending::NotBuilt(Form::Command)),
         Err(WordsNo::Usage) => Done::without_run(Ending::Usage),
         Err(WordsNo::NoMemory) => Done::without_run(Ending::NoMemory),
