@@ -8,32 +8,39 @@ const HI: &[u8] = b"int main(void){putchar(104);putchar(105);return 7;}";
 
 /// Which calls of the outside fail, counted from 1, and how many bytes a sink takes at most in one call.
 #[derive(Clone, Copy)]
-struct Outside {
-    files: &'static [u64],
-    out: &'static [u64],
-    notes: &'static [u64],
-    most: u32,
+pub struct Outside {
+    pub files: &'static [u64],
+    pub out: &'static [u64],
+    pub notes: &'static [u64],
+    pub input: &'static [u64],
+    pub most: u32,
 }
 
-const SOUND: Outside = Outside {
+pub const SOUND: Outside = Outside {
     files: &[],
     out: &[],
     notes: &[],
+    input: &[],
     most: 1000,
 };
 
 /// What a call of the tool left.
 #[derive(Drop)]
-struct Outcome {
-    ending: Ending,
-    out: MemSink,
-    notes: MemSink,
-    made: Option<Image>,
-    input: MemSource,
+pub struct Outcome {
+    pub ending: Ending,
+    pub out: MemSink,
+    pub notes: MemSink,
+    pub made: Option<Image>,
+    pub input: MemSource,
 }
 
 /// Calls the tool on words that are parted by spaces, with one file `t.c`.
-fn call(alloc: Global, line: &[u8], text: &[u8], outside: &Outside) -> Result<Outcome, NoMemory> {
+pub fn call(
+    alloc: Global,
+    line: &[u8],
+    text: &[u8],
+    outside: &Outside,
+) -> Result<Outcome, NoMemory> {
     let mut words = Vec::new(alloc);
     for word in line.split(|c| *c == b' ') {
         if !word.is_empty() {
@@ -45,7 +52,7 @@ fn call(alloc: Global, line: &[u8], text: &[u8], outside: &Outside) -> Result<Ou
         Bytes::from_slice(alloc, text)?,
     );
     let mut files = MemFiles::new(alloc, &[file], outside.files)?;
-    let mut input = MemSource::new(alloc, b"left", &[])?;
+    let mut input = MemSource::new(alloc, b"left", outside.input)?;
     let mut out = MemSink::slow(alloc, outside.out, outside.most.max(1))?;
     let mut notes = MemSink::slow(alloc, outside.notes, outside.most.max(1))?;
     let mut made = None;
@@ -86,6 +93,13 @@ fn programs_run(rt: HostRuntime) -> Result<(), NoMemory> {
             122,
         ),
         (
+            b"go t.c --stats --steps 01".as_slice(),
+            HI,
+            b"".as_slice(),
+            b"methods 0\nsteps 1\n".as_slice(),
+            122,
+        ),
+        (
             b"go --steps 12 t.c".as_slice(),
             HI,
             b"hi".as_slice(),
@@ -115,27 +129,41 @@ fn no_program_runs(rt: HostRuntime) -> Result<(), NoMemory> {
         (b"".as_slice(), HI, b"usage\n".as_slice(), 125),
         (b"went t.c".as_slice(), HI, b"usage\n".as_slice(), 125),
         (b"go \xff".as_slice(), HI, b"usage\n".as_slice(), 125),
-        (b"run t.c".as_slice(), HI, b"not built\n".as_slice(), 116),
-        (b"go".as_slice(), HI, b"not built\n".as_slice(), 116),
-        (b"go -t.c".as_slice(), HI, b"not built\n".as_slice(), 116),
+        (
+            b"run t.c".as_slice(),
+            HI,
+            b"bad image Short 51\n".as_slice(),
+            119,
+        ),
+        (
+            b"run no.c".as_slice(),
+            HI,
+            b"missing no.c\n".as_slice(),
+            126,
+        ),
+        (b"run t.c t.c".as_slice(), HI, b"usage\n".as_slice(), 125),
+        (
+            b"build -o x t.c".as_slice(),
+            HI,
+            b"not built\n".as_slice(),
+            116,
+        ),
+        (b"demo 3".as_slice(), HI, b"not built\n".as_slice(), 116),
+        (b"demo 0".as_slice(), HI, b"usage\n".as_slice(), 125),
+        (b"go".as_slice(), HI, b"usage\n".as_slice(), 125),
+        (b"go -t.c".as_slice(), HI, b"usage\n".as_slice(), 125),
         (b"go t.c t.c".as_slice(), HI, b"not built\n".as_slice(), 116),
         (
             b"go --steps 0 t.c".as_slice(),
             HI,
-            b"not built\n".as_slice(),
-            116,
-        ),
-        (
-            b"go --steps 01 t.c".as_slice(),
-            HI,
-            b"not built\n".as_slice(),
-            116,
+            b"usage\n".as_slice(),
+            125,
         ),
         (
             b"go --steps 1000000000001 t.c".as_slice(),
             HI,
-            b"not built\n".as_slice(),
-            116,
+            b"usage\n".as_slice(),
+            125,
         ),
         (b"go no.c".as_slice(), HI, b"missing no.c\n".as_slice(), 126),
         (
