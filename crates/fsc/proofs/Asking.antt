@@ -1,8 +1,7 @@
 -- What is asked for is one job.
-use Rattle.std.proofs.Common.{◌≡◌, ℕ, ◌⊎◌, List, [], ◌∷◌, Bool, Option, Some, None, refl, sym, ap, subst, ◌∙◌}
+use Rattle.std.proofs.Common.{◌≡◌, ℕ, List, [], ◌∷◌, Bool, Option, Some, None, refl, subst}
 use Rattle.std.specs.Prelude.{IsSome}
-use Rattle.fsc_outside.specs.FileMap.{FileMap, Holds, file_of}
-use Rattle.plain_text.specs.declared.program.Program.{Program}
+use Rattle.fsc_outside.specs.FileMap.{FileMap, Holds}
 use Rattle.plain_text.specs.Program.{IsPlain}
 use Rattle.plain_text.proofs.ProgramLaws.{one_program_law}
 use Rattle.command_line.specs.Requests.{Listed, IsUsable}

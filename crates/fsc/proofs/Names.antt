@@ -1,8 +1,5 @@
 -- Lists of one name.
-use Rattle.std.proofs.Common.{◌≡◌, ℕ, ◌+◌, ◌<◌, ◌≤◌, List, [], ◌∷◌, length, get_or, refl, sym, subst, ap, ◌∙◌, arith}
-use Rattle.fsc.specs.Words.{AsksWith}
-use Rattle.command_line.specs.Requests.{Listed}
-use Rattle.command_line.specs.declared.request.Request.TheVariants as request
+use Rattle.std.proofs.Common.{◌≡◌, ℕ, ◌<◌, ◌≤◌, List, [], ◌∷◌, length, get_or, sym, ap, arith}
 
 pub one_name : (names : List (List ℕ)) (file : List ℕ) → 1 ≤ length names → length names < 2 → file ≡ get_or names 0 file → names ≡ file ∷ []
 one_name [] file some few is = absurd (omega arith)

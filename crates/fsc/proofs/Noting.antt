@@ -1,5 +1,5 @@
 -- Lines that are written one after another.
-use Rattle.std.proofs.Common.{◌≡◌, ℕ, List, ◌++◌, Option}
+use Rattle.std.proofs.Common.{ℕ, List, Option}
 use Rattle.fsc_outside.specs.Streams.{Appends, AppendsFront}
 use Rattle.fsc_outside.proofs.Appending.{appends_then, appends_front_then, appends_front_longer, appends_front_whole}
 use Rattle.fsc.specs.declared.ending.Ending.{Ending}

@@ -1,28 +1,25 @@
 -- What follows from how a call was performed, and from the lines of notes.
-use Rattle.std.proofs.Common.{◌≡◌, ℕ, ◌+◌, ◌*◌, ◌<◌, ◌≤◌, ◌⊎◌, inl, inr, List, [], ◌∷◌, length, take, Bool, Option, Some, None, Result, Ok, Err, refl, sym, ap, subst, ◌∙◌, arith}
+use Rattle.std.proofs.Common.{◌≡◌, ℕ, ◌⊎◌, inl, inr, List, [], ◌∷◌, Bool, Option, Some, None, Result, Ok, Err, refl, sym, ap, subst, ◌∙◌}
 use Rattle.std.specs.Prelude.{IsSome}
 use Rattle.fsc_base.specs.declared.image.Image.{Image}
 use Rattle.fsc_outside.specs.Counts.{Rose}
-use Rattle.fsc_outside.specs.FileMap.{FileMap, Holds}
-use Rattle.fsc_outside.specs.Streams.{Appends, AppendsFront}
+use Rattle.fsc_outside.specs.FileMap.{Holds}
+use Rattle.fsc_outside.specs.Streams.{AppendsFront}
 use Rattle.fsc_outside.proofs.Appending.{appends_front_whole}
 use Rattle.elf_image.specs.Reading.{image_at}
 use Rattle.elf_image.specs.declared.fault.ElfFault.{ElfFault}
 use Rattle.elf_image.specs.declared.fault.ReadElfNo.{ReadElfNo}
 use Rattle.elf_image.specs.declared.fault.ReadElfNo.TheVariants as elf
-use Rattle.rv_run.specs.ImageRun.{ImageRun, Streams, image_run, given_of}
-use Rattle.rv_run.specs.Machine.{start_of}
-use Rattle.plain_text.specs.declared.program.Program.{Program}
-use Rattle.plain_text.specs.Program.{IsPlain}
-use Rattle.command_line.specs.Requests.{Listed, IsUsable}
+use Rattle.rv_run.specs.ImageRun.{ImageRun, Streams}
+use Rattle.command_line.specs.Requests.{IsUsable}
 use Rattle.command_line.specs.declared.request.Request.TheVariants as request
 use Rattle.fsc.specs.declared.ending.Ending.{Ending}
 use Rattle.fsc.specs.declared.ending.Ending.TheVariants.{Exited, Stopped, OutOfStorage, StepsUsed, Usage, MissingFile, FileFault, ReadFault, WriteFault, NoteFault, BadImage, Trap, NotBuilt, NoMemory}
 use Rattle.fsc.specs.declared.ending.Form.TheVariants.{Command, Text}
-use Rattle.fsc.specs.Words.{Asks, AsksWith, AsksRun, IsUnbuilt, NamesToRead}
-use Rattle.fsc.specs.Performing.{FileCounts, RefusesText, RefusesRead, RefusesFile, RunsFile, RunsImageFile, RefusesWords, Performed, refused, ran, ran_image}
-use Rattle.fsc.specs.Tool.{Job, IsAsked, IsImageOf, Answers, IsRefusal, IsRunOf, IsImageRun, RunsImage, IsOfRun, IsEnd, IsUnless, IsUnlessFault}
-use Rattle.fsc.proofs.Asking.{one_request, one_run, not_both, built, built_run, usable, one_text, not_missing}
+use Rattle.fsc.specs.Words.{AsksRun, IsUnbuilt}
+use Rattle.fsc.specs.Performing.{FileCounts, RefusesText, RefusesRead, RefusesFile, RefusesWords, Performed, refused, ran, ran_image}
+use Rattle.fsc.specs.Tool.{Job, Answers, IsRefusal, IsRunOf, RunsImage, IsOfRun, IsUnless}
+use Rattle.fsc.proofs.Asking.{one_run, not_both, built, built_run, usable, one_text, not_missing}
 
 -- ---- a call that made no image is a refusal
 

@@ -1,5 +1,5 @@
 -- What the run of an image that is a job's says of every job that is asked for.
-use Rattle.std.proofs.Common.{◌≡◌, ◌≢◌, ℕ, ◌+◌, ◌*◌, ◌<◌, ◌≤◌, ◌⊎◌, inl, inr, List, [], length, take, Option, Some, None, refl, sym, ap, subst, ◌∙◌, arith}
+use Rattle.std.proofs.Common.{◌≡◌, ◌≢◌, ℕ, ◌+◌, ◌*◌, ◌<◌, ◌≤◌, ◌⊎◌, inl, inr, List, length, take, Option, Some, None, sym, ap, subst, ◌∙◌, arith}
 use Rattle.std.specs.Prelude.{IsSome}
 use Rattle.std.proofs.lemmas.Bool.{cases_lt}
 use Rattle.std.proofs.lemmas.List.{take-take, length-take}
@@ -7,15 +7,13 @@ use Rattle.fsc_base.specs.declared.image.Image.{Image}
 use Rattle.fsc_outside.specs.FileMap.{FileMap}
 use Rattle.fsc_outside.specs.Streams.{Appends, AppendsFront}
 use Rattle.fsc_outside.proofs.Appending.{appends_nothing}
-use Rattle.rv_run.specs.declared.stop.Stop.{Stop}
 use Rattle.rv_run.specs.declared.stop.Stop.TheVariants as stop
 use Rattle.rv_run.specs.ImageRun.{ImageRun, Streams, image_run, given_of}
 use Rattle.rv_run.specs.Machine.{start_of}
 use Rattle.plain_text.specs.declared.program.Program.{Program}
-use Rattle.plain_image.specs.Writing.{Writes}
 use Rattle.fsc.specs.declared.ending.Ending.{Ending}
 use Rattle.fsc.specs.declared.ending.Ending.TheVariants.{Exited, StepsUsed, NoteFault, NoMemory}
-use Rattle.fsc.specs.Tool.{Job, IsAsked, IsImageOf, Answers, IsRefusal, IsImageRun, IsRunOf, IsUnless, AppendsAtLeast}
+use Rattle.fsc.specs.Tool.{Job, IsAsked, Answers, IsRefusal, IsImageRun, IsRunOf, IsUnless, AppendsAtLeast}
 use Rattle.fsc.proofs.Asking.{one_job, not_both}
 use Rattle.fsc.proofs.Performing.{front_written, said_is}
 

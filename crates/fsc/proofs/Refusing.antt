@@ -1,5 +1,5 @@
 -- Why a text, a file or a job's run is refused.
-use Rattle.std.proofs.Common.{◌≡◌, ℕ, ◌⊎◌, inl, inr, List, [], ◌∷◌, Bool, Option, Some, None, refl, sym, ap, subst, ◌∙◌}
+use Rattle.std.proofs.Common.{◌≡◌, ℕ, ◌⊎◌, inl, inr, List, [], ◌∷◌, Option, Some, None, refl, sym, subst, ◌∙◌}
 use Rattle.std.specs.Prelude.{IsSome}
 use Rattle.fsc_base.specs.declared.image.Image.{Image}
 use Rattle.fsc_outside.specs.Counts.{Rose}
@@ -14,7 +14,7 @@ use Rattle.command_line.specs.declared.request.Request.TheVariants as request
 use Rattle.fsc.specs.declared.ending.Ending.{Ending}
 use Rattle.fsc.specs.declared.ending.Ending.TheVariants.{Exited, Stopped, OutOfStorage, StepsUsed, Usage, MissingFile, FileFault, ReadFault, WriteFault, NoteFault, BadImage, Trap, NotBuilt, NoMemory}
 use Rattle.fsc.specs.declared.ending.Form.TheVariants.{Command, Text}
-use Rattle.fsc.specs.Words.{Asks, AsksRun, IsUnbuilt, NamesToRead}
+use Rattle.fsc.specs.Words.{Asks, IsUnbuilt, NamesToRead}
 use Rattle.fsc.specs.Performing.{FileCounts, RefusesText, RefusesRead, RefusesFile, RefusesWords, Performed, refused, ran, ran_image}
 use Rattle.fsc.specs.Tool.{Job, IsAsked, Answers, IsEnd, IsUnless, IsUnlessFault}
 use Rattle.fsc.proofs.Asking.{one_request, not_both, built, usable, one_text, not_missing}

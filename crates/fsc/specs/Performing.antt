@@ -1,5 +1,5 @@
 -- Why the tool answers as it does before the lines of notes are written.
-use Rattle.std.specs.Prelude.{◌≡◌, ℕ, ◌⊎◌, List, [], Bool, Option, Some, None, IsSome, Ok}
+use Rattle.std.specs.Prelude.{◌≡◌, ℕ, ◌⊎◌, List, Bool, Option, Some, None, IsSome}
 use Rattle.fsc_base.specs.declared.image.Image.{Image}
 use Rattle.fsc_outside.specs.Counts.{Rose}
 use Rattle.fsc_outside.specs.FileMap.{FileMap, Holds}

@@ -1,7 +1,7 @@
 -- What the tool is asked for, and what it answers, makes and writes.
 -- `told` is the map of the files where the object tells it; `before` and `after` are what the input has left and the
 -- output holds, where they tell.
-use Rattle.std.specs.Prelude.{◌≡◌, ◌≢◌, ℕ, ◌≤◌, ◌⊎◌, List, [], ◌++◌, take, length, Bool, Option, Some, None, Result, Ok, Err}
+use Rattle.std.specs.Prelude.{◌≡◌, ℕ, ◌≤◌, ◌⊎◌, List, ◌++◌, take, length, Bool, Option, Some, None, Result, Ok, Err}
 use Rattle.fsc_base.specs.declared.image.Image.{Image}
 use Rattle.fsc_outside.specs.FileMap.{FileMap, Holds}
 use Rattle.fsc_outside.specs.Streams.{Appends, AppendsFront}

@@ -1,4 +1,4 @@
-use Rattle.std.proofs.Common.{inl, inr, ◌∙◌}
+use Rattle.std.proofs.Common.{inl, inr}
 use Rattle.fsc.proofs.Performing.{is_run, image_runs, command_only, command, usage_only, usage}
 use Rattle.fsc.proofs.Promises.{prefix, exited, steps_used}
 use Rattle.fsc.proofs.Refusing.{ends, text, text_only, missing, file_fault}
