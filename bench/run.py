@@ -47,14 +47,26 @@ def image(code):
     return headers + bytes(start - len(headers)) + code
 
 
+def peak(process):
+    """The most memory that a running process has had so far, in KiB, or 0 where it has ended."""
+    try:
+        with open(f"/proc/{process}/status") as file:
+            return next((int(line.split()[1]) for line in file if line.startswith("VmHWM")), 0)
+    except OSError:
+        return 0
+
+
 def measure(command):
     """Seconds, and peak memory in KiB, of a command whose output is thrown away."""
     begun = time.monotonic()
     child = subprocess.Popen(command, stdout=subprocess.DEVNULL, stdin=subprocess.DEVNULL)
-    _, status, usage = os.wait4(child.pid, 0)
-    if status != 0:
-        sys.exit(f"{command} ended with {status}")
-    return time.monotonic() - begun, usage.ru_maxrss
+    memory = 0
+    while child.poll() is None:
+        memory = max(memory, peak(child.pid))
+        time.sleep(0.005)
+    if child.returncode != 0:
+        sys.exit(f"{command} ended with {child.returncode}")
+    return time.monotonic() - begun, memory
 
 
 def main():
