@@ -157,7 +157,7 @@ is_run (Some image) said marks words counts before after (ran file steps stats a
       runs.2.0,
       runs.2.1,
       kept,
-      (stats, runs.2.2),
+      runs.2.2,
     )
 is_run None said marks words counts before after (ran_image file steps stats none asks (inl (why, unmarked, kept))) =
     inl (refusal_of_read said file counts why, unmarked, kept)

@@ -149,10 +149,10 @@ abbrev pub IsRunOf : Option Image → Ending → Option ℕ → (words : List (L
 IsRunOf None ending marks words told before after =
     (IsRefusal ending × (marks ≡ None) × (after ≡ before)) ⊎ IsImageRun ending marks words told before after
 IsRunOf (Some image) ending marks words told before after =
-    (job : Job) × IsAsked words told job × IsImageOf job.program image
+    (job : Job) × (asked : IsAsked words told job) × IsImageOf job.program image
     × Answers (image_run job.steps (start_of image) (given_of before.left)) job.steps ending before.written after.written
     × (after.left ≡ before.left)
-    × ((stats : Bool) × MarksOf (image_run job.steps (start_of image) (given_of before.left)) stats ending marks)
+    × MarksOf (image_run job.steps (start_of image) (given_of before.left)) asked.request.0 ending marks
 
 -- at least j of the bytes were written, from their front
 abbrev pub AppendsAtLeast : (j : ℕ) (before after : Option (List ℕ)) (bytes : List ℕ) → Type 0
