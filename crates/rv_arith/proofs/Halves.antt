@@ -1,10 +1,9 @@
 -- The high half of a product that fits 64 bits.
-use Rattle.std.proofs.Common.{◌≡◌, ℕ, ◌*◌, ◌<◌, ◌≤◌, ◌^◌, Fits, refl, sym, ap, ◌∙◌, arith, lit<}
+use Rattle.std.proofs.Common.{◌≡◌, ℕ, ◌*◌, ◌<◌, ◌≤◌, ◌^◌, refl, ◌∙◌, arith}
 use Rattle.std.specs.Prelude.{ℤ, pos, negsuc, ◌*ℤ◌, unsigned_abs}
 use Rattle.std.specs.Int.{w32, w64, cast_unsigned, cast_signed, int_shr}
-use Rattle.std.proofs.lemmas.Int.{to_z-of_z, of_z-to_z, fits_signed_mul}
-use Rattle.std.proofs.Math.Facts.{Fits-of_z}
-use lib.Signed.{mag, mag_shr, nat_abs-le}
+use Rattle.std.proofs.lemmas.Int.{to_z-of_z, fits_signed_mul}
+use lib.Signed.{mag, nat_abs-le}
 use mir.Val.{SFits}
 
 -- the high half fits 32 bits

@@ -1,5 +1,5 @@
 -- What the instructions compute of two registers, each a number below 2 ^ 32. A signed reading is two's complement.
-use Rattle.std.specs.Prelude.{ℕ, ◌+◌, ◌-◌, ◌*◌, ◌/◌, ◌%◌, ◌^◌, ◌==◌, nat_lt, if◌then◌else◌, bit_and, bit_or, bit_xor, ℤ, pos, ◌*ℤ◌, int_lt, int_div, int_rem}
+use Rattle.std.specs.Prelude.{ℕ, ◌+◌, ◌-◌, ◌*◌, ◌/◌, ◌%◌, ◌^◌, ◌==◌, nat_lt, if◌then◌else◌, ℤ, pos, ◌*ℤ◌, int_lt, int_div, int_rem}
 use Rattle.std.specs.Int.{w32, cast_unsigned, cast_signed, int_shr}
 
 abbrev pub signed : ℕ → ℤ
@@ -32,7 +32,7 @@ slt x y = if int_lt (signed x) (signed y) then 1 else 0
 abbrev pub sltu : (x y : ℕ) → ℕ
 sltu x y = if nat_lt x y then 1 else 0
 
--- the low half of a product, and its high half with both, one or no factor signed
+-- the low half of a product, and its high half with both factors signed, the first alone, or neither
 abbrev pub mul : (x y : ℕ) → ℕ
 mul x y = (x * y) % 2 ^ 32
 
@@ -43,9 +43,10 @@ abbrev pub mulhsu : (x y : ℕ) → ℕ
 mulhsu x y = bits (int_shr (signed x *ℤ pos y) 32)
 
 abbrev pub mulhu : (x y : ℕ) → ℕ
-mulhu x y = x * y / 2 ^ 32
+mulhu x y = (x * y) / 2 ^ 32
 
--- division toward zero; by zero all bits are ones and the remainder is the dividend
+-- division toward zero; by zero all bits are ones and the remainder is the dividend; -2 ^ 31 by -1 is itself, and the
+-- remainder 0
 abbrev pub div : (x y : ℕ) → ℕ
 div x y = if y == 0 then 2 ^ 32 - 1 else bits (int_div (signed x) (signed y))
 

@@ -1,6 +1,6 @@
 -- Each instruction counts once.
-use Rattle.std.proofs.Common.{◌≡◌, ℕ, ◌+◌, ◌-◌, ◌%◌, ◌^◌, Bool, true, false, not, cond, eqb, List, set, length, Option, Some, None, Result, Ok, Err, ℤ, refl, ap, subst, ◌∙◌}
-use Rattle.std.specs.Prelude.{int_lt, nat_lt, nat_le, bit_and, bit_or, bit_xor, if◌then◌else◌, ◌==◌, ◌&&◌}
+use Rattle.std.proofs.Common.{◌≡◌, ℕ, ◌+◌, ◌%◌, ◌^◌, Bool, true, false, not, cond, eqb, List, set, length, Option, Some, None, Result, Ok, Err, ℤ, refl, ap, subst, ◌∙◌}
+use Rattle.std.specs.Prelude.{int_lt, nat_lt, nat_le, bit_and, bit_or, bit_xor, ◌==◌, ◌&&◌}
 use Rattle.guest_mem.specs.Regions.{Region}
 use Rattle.guest_mem.specs.Guest.{loaded, stored, fetched, covers, bytes_at}
 use Rattle.guest_mem.specs.declared.fault.Fault.{Fault}

@@ -1,5 +1,5 @@
 -- A run that goes on by one instruction, ends with it, or is done.
-use Rattle.std.proofs.Common.{◌≡◌, ℕ, zero, suc, ◌+◌, ◌-◌, ◌<◌, ◌≤◌, List, [], ◌∷◌, ◌++◌, length, take, drop, Option, Some, None, ◌⊎◌, inl, inr, refl, sym, ap, subst, ◌∙◌, append_assoc, add_assoc, zero-add, arith}
+use Rattle.std.proofs.Common.{◌≡◌, ℕ, zero, suc, ◌+◌, ◌-◌, ◌<◌, ◌≤◌, List, [], ◌++◌, take, drop, Option, Some, None, ◌⊎◌, inl, inr, refl, sym, ap, subst, ◌∙◌, append_assoc, add_assoc, zero-add, arith}
 use Rattle.std.specs.Prelude.{IsSome}
 use Rattle.std.proofs.lemmas.List.{append-nil, nil_from_length}
 use Rattle.fsc_outside.specs.Streams.{Appends, AppendsFront}
@@ -7,9 +7,9 @@ use Rattle.fsc_outside.proofs.Appending.{appends_then, appends_nothing, appends_
 use Rattle.rv_run.specs.declared.stop.Step.TheVariants as step
 use Rattle.rv_run.specs.declared.stop.Stop.{Stop}
 use Rattle.rv_run.specs.declared.stop.Stop.TheVariants as stop
-use Rattle.guest_mem.specs.Filling.{TakesUpTo, TakesFront}
+use Rattle.guest_mem.specs.Filling.{TakesUpTo}
 use Rattle.rv_run.specs.Machine.{State, Action, Goes, Takes, Exits, Stops, Traps, action_of, counted}
-use Rattle.rv_run.specs.ImageRun.{ImageRun, Streams, writing_first, asking_first, ending, beginning, image_run, GoesOn, IsCutShort, IsReadCut, EndsBy, Performs, TakesNothing, IsKnown, given_of, LeavesInput, RunsWhole, Runs}
+use Rattle.rv_run.specs.ImageRun.{ImageRun, Streams, writing_first, asking_first, ending, beginning, image_run, GoesOn, IsCutShort, IsReadCut, Performs, TakesNothing, IsKnown, given_of, LeavesInput, RunsWhole, Runs}
 
 -- what a run has done so far: the whole is what it wrote and asked for, and then the run from here on what is left
 pub record SoFar (whole : ImageRun) (steps : ℕ) (s : State) (before now : Streams) (given : List ℕ) : Type 0 where

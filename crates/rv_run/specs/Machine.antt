@@ -1,6 +1,6 @@
 -- The machine: its state, and what the instruction at its pc does to it, one row for each instruction.
 -- Read it beside the RISC-V manual: registers, addresses and words are numbers below 2 ^ 32, and every sum is modulo that.
-use Rattle.std.specs.Prelude.{◌≡◌, ℕ, ◌+◌, ◌-◌, ◌*◌, ◌/◌, ◌%◌, ◌^◌, ◌==◌, nat_lt, nat_le, ◌&&◌, if◌then◌else◌, List, [], length, replicate, slice_index, slice_set, bit_and, bit_or, bit_xor, Bool, not, Option, Some, None, unwrap_or, Result, Ok, Err, ℤ, int_lt}
+use Rattle.std.specs.Prelude.{◌≡◌, ℕ, ◌+◌, ◌-◌, ◌*◌, ◌%◌, ◌^◌, ◌==◌, nat_lt, nat_le, ◌&&◌, if◌then◌else◌, List, [], length, replicate, slice_index, slice_set, bit_and, bit_or, bit_xor, Bool, not, Option, Some, None, unwrap_or, Result, Ok, Err, ℤ, int_lt}
 use Rattle.std.specs.Int.{w32, cast_unsigned}
 use Rattle.fsc_base.specs.declared.image.Image.{Image}
 use Rattle.guest_mem.specs.Regions.{Region}
@@ -117,7 +117,7 @@ branches taken imm s = if taken then arrives (offset_by s imm) s else goes (next
 
 -- ---- instructions that load and store
 
--- the low bits of a word, read as a signed number of so many bits
+-- the word of a value of so many bits, read as signed
 abbrev pub sign_extended : (width value : ℕ) → ℕ
 sign_extended width value = if nat_lt value (2 ^ (width - 1)) then value else value + (2 ^ 32 - 2 ^ width)
 
@@ -148,7 +148,8 @@ stores width rs1 imm value s = put s (stored width s.memory (sum_of s rs1 imm) v
 
 -- ---- environment calls, by the number in x17
 
--- 63: fills x12 bytes at x11 from stream 0, until they are full or the input ends; x10 becomes their number
+-- 63: fills x12 bytes at x11 from stream 0, until they are full or the input ends; x10 becomes how many came. Those that
+-- are not reached stay.
 abbrev pub with_filled : State → List ℕ → State
 with_filled s bytes = record s { memory = unwrap_or (with_front s.memory (value_of s 11) (value_of s 12) bytes) s.memory }
 
@@ -161,7 +162,7 @@ read_call s =
     then (if covers s.memory Write (value_of s 11) (value_of s 12) then Takes (value_of s 12) (filled s) else Traps trap.Store)
     else Traps trap.Call
 
--- 64: writes the x12 bytes at x11 to stream 1; x10 becomes their number
+-- 64: writes the x12 bytes at x11 to stream 1; x10 becomes x12
 abbrev pub written : State → Option (List ℕ) → Action
 written s None = Traps trap.Load
 written s (Some bytes) = Goes bytes (next (with_register s 10 (value_of s 12)))

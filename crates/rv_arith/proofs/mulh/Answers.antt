@@ -1,4 +1,4 @@
-use Rattle.std.proofs.Common.{◌∙◌, ◌^◌, lit<, refl, rules}
+use Rattle.std.proofs.Common.{◌∙◌, ◌^◌, lit<, refl}
 use Rattle.rv_arith.proofs.Halves.{high_half, widened, magnitude}
 use Rattle.rv_arith.proofs.mulh.Goals as goal
 
