@@ -1,9 +1,10 @@
 //! Byte strings that own their bytes: texts, names of files and identifiers, contents of segments.
 
-ghost use Rattle.std.specs.Prelude.{◌≡◌, ℕ, ◌<◌, List, length, slice_set, IfOk};
+ghost use Rattle.std.specs.Prelude.{◌≡◌, ℕ, ◌<◌, List, [], length, slice_set, IfOk};
 
 use crate::memory::NoMemory;
 use std::alloc::Global;
+use std::default::MadeWith;
 use std::marker::Model;
 
 /// A list of bytes, of any value and number. Contracts see it as that list.
@@ -19,6 +20,17 @@ impl Model for Bytes {
     ghost Value = { List ℕ };
 
     ghost view = { λ b. b.items.items };
+}
+
+impl MadeWith<Global> for Bytes {
+    ghost is_made_with = { λ bytes. bytes ≡ [] };
+
+    /// No bytes. It takes no memory.
+    fn made_with(alloc: Global) -> Bytes {
+        Bytes {
+            items: Vec::new(alloc),
+        }
+    }
 }
 
 impl Bytes {

@@ -11,7 +11,7 @@ mod word;
 pub use bytes::{Bytes, Name};
 pub use image::{Image, Segment, Segments};
 pub use memory::NoMemory;
-pub use place::{Broken, Place};
+pub use place::{Broken, Place, Refused};
 pub use rule::Rule;
 pub use word::{Width, Word, WordKind};
 

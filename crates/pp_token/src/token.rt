@@ -1,0 +1,83 @@
+//! Preprocessing tokens.
+
+ghost use Rattle.std.specs.Prelude.{◌≡◌};
+
+use crate::hide_set::HideSet;
+use fsc_base::{Bytes, Place};
+use std::marker::Model;
+
+/// What a preprocessing token is (C90 6.1).
+#[derive(Clone, Copy, Debug, PartialEq, Eq)]
+pub enum PpKind {
+    /// A header name with its delimiters, only directly after `include` in a directive.
+    Header,
+    /// An identifier, which may be a keyword.
+    Name,
+    /// A preprocessing number.
+    Number,
+    /// A character constant with its quotes, and with its L where it is wide.
+    Char,
+    /// A string literal with its quotes, and with its L where it is wide.
+    Str,
+    /// An operator or punctuator.
+    Punct,
+    /// Any other character, an unclosed quote among them.
+    Other,
+    /// The end of a line. Its text is empty.
+    LineEnd,
+    /// The end of the file or of the unit. Its text is empty.
+    End,
+}
+
+/// A preprocessing token.
+#[derive(Debug, Drop)]
+pub struct PpToken {
+    pub kind: PpKind,
+    /// Its spelling after phase 2.
+    pub text: Bytes,
+    /// Where its first character stands, or the macro name that it comes from.
+    pub place: Place,
+    /// Whether white space stands just before it.
+    pub spaced: bool,
+    /// The macros that it is not expanded for any more.
+    pub hide: HideSet,
+}
+
+/// A list of preprocessing tokens.
+#[derive(Debug, Drop)]
+pub struct PpTokens {
+    items: Vec<PpToken>,
+}
+
+impl Model for PpTokens {
+    ghost use Rattle.std.specs.Prelude.{List};
+    ghost use Rattle.pp_token.specs.declared.token.PpToken.{PpToken};
+
+    ghost Value = { List PpToken };
+
+    ghost view = { λ t. t.items.items };
+}
+
+impl PpTokens {
+    /// The tokens, from a vector. It takes no memory.
+    pub fn from_vec(items: Vec<PpToken>) -> PpTokens
+        ensures { result ≡ items.items }
+    {
+        PpTokens { items }
+    }
+
+    /// The same tokens as a vector. It takes no memory.
+    pub fn into_vec(self) -> Vec<PpToken>
+        ensures { result.items ≡ self }
+    {
+        let PpTokens { items } = self;
+        items
+    }
+
+    /// The tokens, lent.
+    pub fn as_slice(&self) -> &[PpToken]
+        ensures { result.now ≡ self.now }
+    {
+        self.items.as_slice()
+    }
+}
