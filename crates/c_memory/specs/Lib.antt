@@ -1,0 +1,6 @@
+pub mod Access
+pub mod Blocks
+pub mod Bytes
+pub mod Copying
+pub mod Storage
+pub mod Words
