@@ -2,5 +2,6 @@ pub mod Access
 pub mod Blocks
 pub mod Bytes
 pub mod Copying
+pub mod Sound
 pub mod Storage
 pub mod Words

@@ -1,0 +1,3 @@
+pub mod Layouts
+pub mod StandsFor
+pub mod Store

@@ -1,0 +1,2 @@
+//! Cells for blocks, in one region of words: size classes, free cells, and headers.
+#![tactic(auto)]
