@@ -3,7 +3,7 @@ use Rattle.std.proofs.Common.{ℕ, List, Option}
 use Rattle.fsc_outside.specs.Streams.{Appends, AppendsFront}
 use Rattle.fsc_outside.proofs.Appending.{appends_then, appends_front_then, appends_front_longer, appends_front_whole}
 use Rattle.fsc.specs.declared.ending.Ending.{Ending}
-use Rattle.fsc.specs.declared.ending.Ending.TheVariants.{Exited, Stopped, OutOfStorage, StepsUsed, Usage, MissingFile, FileFault, ReadFault, WriteFault, NoteFault, BadImage, Trap, NotBuilt, NoMemory}
+use Rattle.fsc.specs.declared.ending.Ending.TheVariants.{Exited, Stopped, OutOfStorage, StepsUsed, Usage, MissingFile, FileFault, ReadFault, WriteFault, NoteFault, Rejected, BadImage, Trap, NotBuilt, NoMemory}
 use Rattle.fsc.specs.Ending.{note_of, marks_line}
 use Rattle.fsc.specs.Tool.{IsNoted, notes_of}
 
@@ -19,6 +19,7 @@ noted_whole marks (FileFault name) before now after first then = appends_then be
 noted_whole marks ReadFault before now after first then = appends_then before now after (marks_line marks) (note_of ReadFault) first then
 noted_whole marks WriteFault before now after first then = appends_then before now after (marks_line marks) (note_of WriteFault) first then
 noted_whole marks NoteFault before now after first then = (NoteFault, appends_front_whole before after (notes_of marks NoteFault) (appends_then before now after (marks_line marks) (note_of NoteFault) first then))
+noted_whole marks (Rejected rule place name) before now after first then = appends_then before now after (marks_line marks) (note_of (Rejected rule place name)) first then
 noted_whole marks (BadImage fault offset) before now after first then = appends_then before now after (marks_line marks) (note_of (BadImage fault offset)) first then
 noted_whole marks (Trap kind pc) before now after first then = appends_then before now after (marks_line marks) (note_of (Trap kind pc)) first then
 noted_whole marks (NotBuilt form) before now after first then = appends_then before now after (marks_line marks) (note_of (NotBuilt form)) first then

@@ -14,10 +14,10 @@ use Rattle.rv_run.specs.ImageRun.{ImageRun, Streams}
 use Rattle.command_line.specs.Requests.{IsUsable}
 use Rattle.command_line.specs.declared.request.Request.TheVariants as request
 use Rattle.fsc.specs.declared.ending.Ending.{Ending}
-use Rattle.fsc.specs.declared.ending.Ending.TheVariants.{Exited, Stopped, OutOfStorage, StepsUsed, Usage, MissingFile, FileFault, ReadFault, WriteFault, NoteFault, BadImage, Trap, NotBuilt, NoMemory}
+use Rattle.fsc.specs.declared.ending.Ending.TheVariants.{Exited, Stopped, OutOfStorage, StepsUsed, Usage, MissingFile, FileFault, ReadFault, WriteFault, NoteFault, Rejected, BadImage, Trap, NotBuilt, NoMemory}
 use Rattle.fsc.specs.declared.ending.Form.TheVariants.{Command, Text}
 use Rattle.fsc.specs.Words.{AsksRun, IsUnbuilt}
-use Rattle.fsc.specs.Performing.{FileCounts, RefusesText, RefusesRead, RefusesFile, RefusesWords, Performed, refused, ran, ran_image}
+use Rattle.fsc.specs.Performing.{FileCounts, RefusesUnit, RefusesText, RefusesRead, RefusesFile, RefusesWords, Performed, refused, ran, ran_image}
 use Rattle.fsc.specs.Tool.{Job, Answers, IsRefusal, IsRunOf, RunsImage, IsOfRun, IsUnless}
 use Rattle.fsc.proofs.Asking.{one_run, not_both, built, built_run, usable, one_text, not_missing}
 
@@ -34,6 +34,7 @@ refusal_of_words (FileFault name) words h = tt
 refusal_of_words ReadFault words h = h
 refusal_of_words WriteFault words h = h
 refusal_of_words NoteFault words h = h
+refusal_of_words (Rejected rule place name) words h = tt
 refusal_of_words (BadImage fault offset) words h = h
 refusal_of_words (Trap kind pc) words h = h
 refusal_of_words (NotBuilt form) words h = tt
@@ -50,30 +51,36 @@ refusal_of_read (FileFault name) file counts h = tt
 refusal_of_read ReadFault file counts h = h
 refusal_of_read WriteFault file counts h = h
 refusal_of_read NoteFault file counts h = h
+refusal_of_read (Rejected rule place name) file counts h = tt
 refusal_of_read (BadImage fault offset) file counts h = h
 refusal_of_read (Trap kind pc) file counts h = h
 refusal_of_read (NotBuilt form) file counts h = tt
 refusal_of_read NoMemory file counts h = tt
 
-refusal_of_text : (ending : Ending) (text : List ℕ) → RefusesText text ending → IsRefusal ending
-refusal_of_text (Exited status) text h = h
-refusal_of_text (Stopped kind block offset width) text h = h
-refusal_of_text (OutOfStorage storage) text h = h
-refusal_of_text (StepsUsed n) text h = h
-refusal_of_text Usage text h = tt
-refusal_of_text (MissingFile name) text h = tt
-refusal_of_text (FileFault name) text h = tt
-refusal_of_text ReadFault text h = h
-refusal_of_text WriteFault text h = h
-refusal_of_text NoteFault text h = h
-refusal_of_text (BadImage fault offset) text h = h
-refusal_of_text (Trap kind pc) text h = h
-refusal_of_text (NotBuilt form) text h = tt
-refusal_of_text NoMemory text h = tt
+refusal_of_unit : (ending : Ending) (file : List ℕ) (counts : FileCounts) → RefusesUnit ending file counts → IsRefusal ending
+refusal_of_unit (Exited status) file counts h = h
+refusal_of_unit (Stopped kind block offset width) file counts h = h
+refusal_of_unit (OutOfStorage storage) file counts h = h
+refusal_of_unit (StepsUsed n) file counts h = h
+refusal_of_unit Usage file counts h = tt
+refusal_of_unit (MissingFile name) file counts h = tt
+refusal_of_unit (FileFault name) file counts h = tt
+refusal_of_unit ReadFault file counts h = h
+refusal_of_unit WriteFault file counts h = h
+refusal_of_unit NoteFault file counts h = h
+refusal_of_unit (Rejected rule place name) file counts h = tt
+refusal_of_unit (BadImage fault offset) file counts h = h
+refusal_of_unit (Trap kind pc) file counts h = h
+refusal_of_unit (NotBuilt form) file counts h = tt
+refusal_of_unit NoMemory file counts h = tt
+
+refusal_of_text : (ending : Ending) (text file : List ℕ) (counts : FileCounts) → RefusesText text file counts ending → IsRefusal ending
+refusal_of_text ending text file counts (inl (no_program, why)) = refusal_of_unit ending file counts why
+refusal_of_text ending text file counts (inr same) = subst IsRefusal (sym same) tt
 
 refusal_of_file : (ending : Ending) (file : List ℕ) (counts : FileCounts) → RefusesFile ending file counts → IsRefusal ending
 refusal_of_file ending file counts (inl read) = refusal_of_read ending file counts read
-refusal_of_file ending file counts (inr (text, held, why)) = refusal_of_text ending text why
+refusal_of_file ending file counts (inr (text, held, why)) = refusal_of_text ending text file counts why
 
 -- ---- runs
 
@@ -89,6 +96,7 @@ front_written (FileFault name) run steps before after h = absurd h
 front_written ReadFault run steps before after h = absurd h
 front_written WriteFault run steps before after h = h
 front_written NoteFault run steps before after h = absurd h
+front_written (Rejected rule place name) run steps before after h = absurd h
 front_written (BadImage fault offset) run steps before after h = absurd h
 front_written (Trap kind pc) run steps before after h = absurd h
 front_written (NotBuilt form) run steps before after h = absurd h
@@ -116,6 +124,7 @@ refused_image (FileFault name) marks words steps stats image before after is_usa
 refused_image ReadFault marks words steps stats image before after is_usable is_built why unmarked kept = absurd why
 refused_image WriteFault marks words steps stats image before after is_usable is_built why unmarked kept = absurd why
 refused_image NoteFault marks words steps stats image before after is_usable is_built why unmarked kept = absurd why
+refused_image (Rejected rule place name) marks words steps stats image before after is_usable is_built why unmarked kept = absurd why
 refused_image (BadImage fault offset) marks words steps stats image before after is_usable is_built why unmarked kept = absurd why
 refused_image (Trap kind pc) marks words steps stats image before after is_usable is_built why unmarked kept = absurd why
 refused_image (NotBuilt Command) marks words steps stats image before after is_usable is_built why unmarked kept = absurd (is_built why)
@@ -135,6 +144,7 @@ read_image (FileFault name) marks other file counts steps stats bytes before aft
 read_image ReadFault marks other file counts steps stats bytes before after same is_told held why unmarked kept = absurd why
 read_image WriteFault marks other file counts steps stats bytes before after same is_told held why unmarked kept = absurd why
 read_image NoteFault marks other file counts steps stats bytes before after same is_told held why unmarked kept = absurd why
+read_image (Rejected rule place name) marks other file counts steps stats bytes before after same is_told held why unmarked kept = absurd why
 read_image (BadImage fault offset) marks other file counts steps stats bytes before after same is_told held why unmarked kept = absurd why
 read_image (Trap kind pc) marks other file counts steps stats bytes before after same is_told held why unmarked kept = absurd why
 read_image (NotBuilt form) marks other file counts steps stats bytes before after same is_told held why unmarked kept = absurd why
@@ -216,7 +226,8 @@ not_of_image image steps stats ending marks before after runs no_run no_fault =
 
 no_command_of_file : (file : List ℕ) (counts : FileCounts) → RefusesFile (NotBuilt Command) file counts → ⊥
 no_command_of_file file counts (inl read) = read
-no_command_of_file file counts (inr (text, held, why)) = why
+no_command_of_file file counts (inr (text, held, inl (no_program, why))) = why
+no_command_of_file file counts (inr (text, held, inr same)) = cc
 
 command_said : (made : Option Image) (marks : Option ℕ) (words : List (List ℕ)) (counts : FileCounts) (before after : Streams)
     → Performed made (NotBuilt Command) marks words counts before after → IsUnbuilt words
@@ -243,6 +254,7 @@ unlisted (FileFault name) words is_usable why = absurd why
 unlisted ReadFault words is_usable why = absurd why
 unlisted WriteFault words is_usable why = absurd why
 unlisted NoteFault words is_usable why = absurd why
+unlisted (Rejected rule place name) words is_usable why = absurd why
 unlisted (BadImage fault offset) words is_usable why = absurd why
 unlisted (Trap kind pc) words is_usable why = absurd why
 unlisted (NotBuilt Command) words is_usable why = inl refl
@@ -276,6 +288,7 @@ refused_words (FileFault name) words no_use why = absurd why
 refused_words ReadFault words no_use why = absurd why
 refused_words WriteFault words no_use why = absurd why
 refused_words NoteFault words no_use why = absurd why
+refused_words (Rejected rule place name) words no_use why = absurd why
 refused_words (BadImage fault offset) words no_use why = absurd why
 refused_words (Trap kind pc) words no_use why = absurd why
 refused_words (NotBuilt Command) words no_use why = absurd (no_use (usable words why.0 why.1))
@@ -292,7 +305,8 @@ usage ending made said marks words counts before after performed report no_use =
 
 no_usage_of_file : (file : List ℕ) (counts : FileCounts) → RefusesFile Usage file counts → ⊥
 no_usage_of_file file counts (inl read) = read
-no_usage_of_file file counts (inr (text, held, why)) = why
+no_usage_of_file file counts (inr (text, held, inl (no_program, why))) = why
+no_usage_of_file file counts (inr (text, held, inr same)) = cc
 
 used : (made : Option Image) (marks : Option ℕ) (words : List (List ℕ)) (counts : FileCounts) (before after : Streams)
     → Performed made Usage marks words counts before after → IsUsable words → ⊥

@@ -2,6 +2,9 @@
 use Rattle.std.proofs.Common.{◌≡◌, ℕ, ◌⊎◌, inl, inr, List, [], ◌∷◌, Option, Some, None, refl, sym, subst, ◌∙◌}
 use Rattle.std.specs.Prelude.{IsSome}
 use Rattle.fsc_base.specs.declared.image.Image.{Image}
+use Rattle.fsc_base.specs.declared.place.Place.{Place}
+use Rattle.fsc_base.specs.declared.rule.Rule.{Rule}
+use Rattle.fsc_base.specs.declared.rule.Rule.TheVariants.{K40}
 use Rattle.fsc_outside.specs.Counts.{Rose}
 use Rattle.fsc_outside.specs.FileMap.{FileMap, Holds}
 use Rattle.elf_image.specs.Reading.{image_at}
@@ -12,11 +15,11 @@ use Rattle.plain_text.specs.Program.{IsPlain}
 use Rattle.command_line.specs.Requests.{IsUsable}
 use Rattle.command_line.specs.declared.request.Request.TheVariants as request
 use Rattle.fsc.specs.declared.ending.Ending.{Ending}
-use Rattle.fsc.specs.declared.ending.Ending.TheVariants.{Exited, Stopped, OutOfStorage, StepsUsed, Usage, MissingFile, FileFault, ReadFault, WriteFault, NoteFault, BadImage, Trap, NotBuilt, NoMemory}
+use Rattle.fsc.specs.declared.ending.Ending.TheVariants.{Exited, Stopped, OutOfStorage, StepsUsed, Usage, MissingFile, FileFault, ReadFault, WriteFault, NoteFault, Rejected, BadImage, Trap, NotBuilt, NoMemory}
 use Rattle.fsc.specs.declared.ending.Form.TheVariants.{Command, Text}
-use Rattle.fsc.specs.Words.{Asks, IsUnbuilt, NamesToRead}
-use Rattle.fsc.specs.Performing.{FileCounts, RefusesText, RefusesRead, RefusesFile, RefusesWords, Performed, refused, ran, ran_image}
-use Rattle.fsc.specs.Tool.{Job, IsAsked, Answers, IsEnd, IsUnless, IsUnlessFault}
+use Rattle.fsc.specs.Words.{Asks, IsUnbuilt, NamesToRead, MayRead}
+use Rattle.fsc.specs.Performing.{FileCounts, IsTextRule, RefusesUnit, RefusesText, RefusesRead, RefusesFile, RefusesWords, Performed, refused, ran, ran_image}
+use Rattle.fsc.specs.Tool.{Job, IsAsked, Answers, IsEnd, IsUnless, IsUnlessFault, IsRefusedText}
 use Rattle.fsc.proofs.Asking.{one_request, not_both, built, usable, one_text, not_missing}
 use Rattle.fsc.proofs.Performing.{said_is, not_of_image}
 
@@ -33,6 +36,7 @@ job_words (FileFault name) words is_usable is_built why = absurd why
 job_words ReadFault words is_usable is_built why = absurd why
 job_words WriteFault words is_usable is_built why = absurd why
 job_words NoteFault words is_usable is_built why = absurd why
+job_words (Rejected rule place name) words is_usable is_built why = absurd why
 job_words (BadImage fault offset) words is_usable is_built why = absurd why
 job_words (Trap kind pc) words is_usable is_built why = absurd why
 job_words (NotBuilt Command) words is_usable is_built why = absurd (is_built why)
@@ -50,27 +54,15 @@ job_read (FileFault name) file counts no_fault no_absence why = absurd (no_fault
 job_read ReadFault file counts no_fault no_absence why = absurd why
 job_read WriteFault file counts no_fault no_absence why = absurd why
 job_read NoteFault file counts no_fault no_absence why = absurd why
+job_read (Rejected rule place name) file counts no_fault no_absence why = absurd why
 job_read (BadImage fault offset) file counts no_fault no_absence why = absurd why
 job_read (Trap kind pc) file counts no_fault no_absence why = absurd why
 job_read (NotBuilt form) file counts no_fault no_absence why = absurd why
 job_read NoMemory file counts no_fault no_absence why = tt
 
-job_text : (said : Ending) (text : List ℕ) (program : Program) → IsPlain text program → RefusesText text said → IsEnd said
-job_text (Exited status) text program plain why = absurd why
-job_text (Stopped kind block offset width) text program plain why = absurd why
-job_text (OutOfStorage storage) text program plain why = absurd why
-job_text (StepsUsed n) text program plain why = absurd why
-job_text Usage text program plain why = absurd why
-job_text (MissingFile name) text program plain why = absurd why
-job_text (FileFault name) text program plain why = absurd why
-job_text ReadFault text program plain why = absurd why
-job_text WriteFault text program plain why = absurd why
-job_text NoteFault text program plain why = absurd why
-job_text (BadImage fault offset) text program plain why = absurd why
-job_text (Trap kind pc) text program plain why = absurd why
-job_text (NotBuilt Command) text program plain why = absurd why
-job_text (NotBuilt Text) text program plain why = absurd (why program plain)
-job_text NoMemory text program plain why = tt
+job_text : (said : Ending) (text file : List ℕ) (counts : FileCounts) (program : Program) → IsPlain text program → RefusesText text file counts said → IsEnd said
+job_text said text file counts program plain (inl (no_program, why)) = absurd (no_program program plain)
+job_text said text file counts program plain (inr same) = subst IsEnd (sym same) tt
 
 job_answered : (said : Ending) (run : ImageRun) (steps : ℕ) (before after : Option (List ℕ)) → (said ≡ WriteFault → ⊥) → Answers run steps said before after → IsEnd said
 job_answered (Exited status) run steps before after no_write h = tt
@@ -83,6 +75,7 @@ job_answered (FileFault name) run steps before after no_write h = absurd h
 job_answered ReadFault run steps before after no_write h = absurd h
 job_answered WriteFault run steps before after no_write h = absurd (no_write refl)
 job_answered NoteFault run steps before after no_write h = absurd h
+job_answered (Rejected rule place name) run steps before after no_write h = absurd h
 job_answered (BadImage fault offset) run steps before after no_write h = absurd h
 job_answered (Trap kind pc) run steps before after no_write h = absurd h
 job_answered (NotBuilt form) run steps before after no_write h = absurd h
@@ -94,7 +87,7 @@ job_file said file counts job is_told same held plain no_fault no_absence (inl r
 job_file said file counts job is_told same held plain no_fault no_absence (inr (text, other_held, why)) =
     let held_here : Holds counts.told job.file (Some text) = subst (λ (f : List ℕ). Holds counts.told f (Some text)) same other_held in
     let one = one_text counts.told job.file job.text text is_told held held_here in
-    job_text said text job.program (subst (λ (t : List ℕ). IsPlain t job.program) one plain) why
+    job_text said text file counts job.program (subst (λ (t : List ℕ). IsPlain t job.program) one plain) why
 
 job_ends : (made : Option Image) (said : Ending) (marks : Option ℕ) (words : List (List ℕ)) (counts : FileCounts) (before after : Streams) (job : Job) → Performed made said marks words counts before after → IsSome counts.told → IsAsked words counts.told job
     → (Rose counts.faults_before counts.faults_after → ⊥) → (Rose counts.absences_before counts.absences_after → ⊥) → (said ≡ WriteFault → ⊥) → IsEnd said
@@ -121,7 +114,10 @@ ends ending made said marks words counts before after job performed report is_to
 -- ---- a text that is no program
 
 abbrev Said : Ending → Type 0
-Said said = (said ≡ NotBuilt Text) ⊎ (((name : List ℕ) × (said ≡ FileFault name)) ⊎ (said ≡ NoMemory))
+Said said =
+    (said ≡ NotBuilt Text)
+    ⊎ (((name : List ℕ) × (said ≡ FileFault name))
+    ⊎ ((said ≡ NoMemory) ⊎ ((rule : Rule) × (place : Place) × (name : List ℕ) × (said ≡ Rejected rule place name))))
 
 words_said : (said : Ending) (words : List (List ℕ)) → IsUsable words → (IsUnbuilt words → ⊥) → RefusesWords said words → Said said
 words_said (Exited status) words is_usable is_built why = absurd why
@@ -134,11 +130,12 @@ words_said (FileFault name) words is_usable is_built why = absurd why
 words_said ReadFault words is_usable is_built why = absurd why
 words_said WriteFault words is_usable is_built why = absurd why
 words_said NoteFault words is_usable is_built why = absurd why
+words_said (Rejected rule place name) words is_usable is_built why = absurd why
 words_said (BadImage fault offset) words is_usable is_built why = absurd why
 words_said (Trap kind pc) words is_usable is_built why = absurd why
 words_said (NotBuilt Command) words is_usable is_built why = absurd (is_built why)
 words_said (NotBuilt Text) words is_usable is_built why = absurd why
-words_said NoMemory words is_usable is_built why = inr (inr refl)
+words_said NoMemory words is_usable is_built why = inr (inr (inl refl))
 
 read_said : (said : Ending) (file : List ℕ) (text : List ℕ) (counts : FileCounts) → IsSome counts.told → Holds counts.told file (Some text) → RefusesRead said file counts → Said said
 read_said (Exited status) file text counts is_told held why = absurd why
@@ -151,31 +148,37 @@ read_said (FileFault name) file text counts is_told held why = inr (inl (name, r
 read_said ReadFault file text counts is_told held why = absurd why
 read_said WriteFault file text counts is_told held why = absurd why
 read_said NoteFault file text counts is_told held why = absurd why
+read_said (Rejected rule place name) file text counts is_told held why = absurd why
 read_said (BadImage fault offset) file text counts is_told held why = absurd why
 read_said (Trap kind pc) file text counts is_told held why = absurd why
 read_said (NotBuilt form) file text counts is_told held why = absurd why
-read_said NoMemory file text counts is_told held why = inr (inr refl)
+read_said NoMemory file text counts is_told held why = inr (inr (inl refl))
 
-refused_text_said : (said : Ending) (text : List ℕ) → RefusesText text said → Said said
-refused_text_said (Exited status) text why = absurd why
-refused_text_said (Stopped kind block offset width) text why = absurd why
-refused_text_said (OutOfStorage storage) text why = absurd why
-refused_text_said (StepsUsed n) text why = absurd why
-refused_text_said Usage text why = absurd why
-refused_text_said (MissingFile name) text why = absurd why
-refused_text_said (FileFault name) text why = absurd why
-refused_text_said ReadFault text why = absurd why
-refused_text_said WriteFault text why = absurd why
-refused_text_said NoteFault text why = absurd why
-refused_text_said (BadImage fault offset) text why = absurd why
-refused_text_said (Trap kind pc) text why = absurd why
-refused_text_said (NotBuilt Command) text why = absurd why
-refused_text_said (NotBuilt Text) text why = inl refl
-refused_text_said NoMemory text why = inr (inr refl)
+refused_unit_said : (said : Ending) (text file : List ℕ) (counts : FileCounts) → IsSome counts.told → Holds counts.told file (Some text) → RefusesUnit said file counts → Said said
+refused_unit_said (Exited status) text file counts is_told held why = absurd why
+refused_unit_said (Stopped kind block offset width) text file counts is_told held why = absurd why
+refused_unit_said (OutOfStorage storage) text file counts is_told held why = absurd why
+refused_unit_said (StepsUsed n) text file counts is_told held why = absurd why
+refused_unit_said Usage text file counts is_told held why = absurd why
+refused_unit_said (MissingFile name) text file counts is_told held why = absurd (not_missing counts.told file text is_told held why.1)
+refused_unit_said (FileFault name) text file counts is_told held why = inr (inl (name, refl))
+refused_unit_said ReadFault text file counts is_told held why = absurd why
+refused_unit_said WriteFault text file counts is_told held why = absurd why
+refused_unit_said NoteFault text file counts is_told held why = absurd why
+refused_unit_said (Rejected rule place name) text file counts is_told held why = inr (inr (inr (rule, place, name, refl)))
+refused_unit_said (BadImage fault offset) text file counts is_told held why = absurd why
+refused_unit_said (Trap kind pc) text file counts is_told held why = absurd why
+refused_unit_said (NotBuilt Command) text file counts is_told held why = absurd why
+refused_unit_said (NotBuilt Text) text file counts is_told held why = inl refl
+refused_unit_said NoMemory text file counts is_told held why = inr (inr (inl refl))
+
+refused_text_said : (said : Ending) (text file : List ℕ) (counts : FileCounts) → IsSome counts.told → Holds counts.told file (Some text) → RefusesText text file counts said → Said said
+refused_text_said said text file counts is_told held (inl (no_program, why)) = refused_unit_said said text file counts is_told held why
+refused_text_said said text file counts is_told held (inr same) = inr (inr (inl same))
 
 file_said : (said : Ending) (file text : List ℕ) (counts : FileCounts) → IsSome counts.told → Holds counts.told file (Some text) → RefusesFile said file counts → Said said
 file_said said file text counts is_told held (inl read) = read_said said file text counts is_told held read
-file_said said file text counts is_told held (inr (other, other_held, why)) = refused_text_said said other why
+file_said said file text counts is_told held (inr (other, other_held, why)) = refused_text_said said other file counts is_told other_held why
 
 text_said : (made : Option Image) (said : Ending) (marks : Option ℕ) (words : List (List ℕ)) (counts : FileCounts) (before after : Streams) (file : List ℕ) (steps : ℕ) (text : List ℕ) → Performed made said marks words counts before after → IsSome counts.told → Asks words file steps
     → Holds counts.told file (Some text) → ((program : Program) → IsPlain text program → ⊥) → Said said
@@ -192,19 +195,20 @@ text_said (Some image) said marks words counts before after file steps text (ran
 text_said made said marks words counts before after file steps text (ran_image other m s none other_asks runs) is_told asks held no_program =
     absurd (not_both words file other steps m s asks other_asks)
 
-said_then : (said ending : Ending) → ending ≡ said → Said said → IsUnlessFault (NotBuilt Text) ending
-said_then said ending same (inl is) = inl (inl (same ∙ is))
-said_then said ending same (inr (inl (name, is))) = inr (name, same ∙ is)
-said_then said ending same (inr (inr is)) = inl (inr (inr (same ∙ is)))
+said_then : (said ending : Ending) → ending ≡ said → Said said → IsRefusedText ending
+said_then said ending same (inl is) = inl (inl (inl (same ∙ is)))
+said_then said ending same (inr (inl (name, is))) = inl (inr (name, same ∙ is))
+said_then said ending same (inr (inr (inl is))) = inl (inl (inr (inr (same ∙ is))))
+said_then said ending same (inr (inr (inr (rule, place, name, is)))) = inr (rule, place, name, same ∙ is)
 
-reported_then : (said ending : Ending) → IsUnless said ending → Said said → IsUnlessFault (NotBuilt Text) ending
+reported_then : (said ending : Ending) → IsUnless said ending → Said said → IsRefusedText ending
 reported_then said ending (inl same) h = said_then said ending same h
-reported_then said ending (inr (inl fault)) h = inl (inr (inl fault))
-reported_then said ending (inr (inr memory)) h = inl (inr (inr memory))
+reported_then said ending (inr (inl fault)) h = inl (inl (inr (inl fault)))
+reported_then said ending (inr (inr memory)) h = inl (inl (inr (inr memory)))
 
 pub text : (ending : Ending) (made : Option Image) (said : Ending) (marks : Option ℕ) (words : List (List ℕ)) (counts : FileCounts) (before after : Streams) → Performed made said marks words counts before after → IsUnless said ending
     → (file : List ℕ) (steps : ℕ) (text : List ℕ) → IsSome counts.told → Asks words file steps → Holds counts.told file (Some text)
-    → ((program : Program) → IsPlain text program → ⊥) → IsUnlessFault (NotBuilt Text) ending
+    → ((program : Program) → IsPlain text program → ⊥) → IsRefusedText ending
 text ending made said marks words counts before after performed report file steps bytes is_told asks held no_program =
     reported_then said ending report (text_said made said marks words counts before after file steps bytes performed is_told asks held no_program)
 
@@ -219,7 +223,8 @@ NoProgram words told = (file : List ℕ) × (steps : ℕ) × (text : List ℕ) �
 
 no_program_in : (words : List (List ℕ)) (file : List ℕ) (steps : ℕ) (counts : FileCounts) → Asks words file steps → RefusesFile (NotBuilt Text) file counts → NoProgram words counts.told
 no_program_in words file steps counts asks (inl read) = absurd read
-no_program_in words file steps counts asks (inr (text, held, why)) = (file, steps, text, asks, held, why)
+no_program_in words file steps counts asks (inr (text, held, inl (none, why))) = (file, steps, text, asks, held, none)
+no_program_in words file steps counts asks (inr (text, held, inr same)) = absurd cc
 
 no_program : (made : Option Image) (marks : Option ℕ) (words : List (List ℕ)) (counts : FileCounts) (before after : Streams) → Performed made (NotBuilt Text) marks words counts before after
     → NoProgram words counts.told
@@ -243,7 +248,8 @@ missing_read words name file counts names why =
 missing_in : (words : List (List ℕ)) (name file : List ℕ) (counts : FileCounts) → NamesToRead words file → RefusesFile (MissingFile name) file counts
     → Rose counts.absences_before counts.absences_after × NamesToRead words name × Holds counts.told name None
 missing_in words name file counts names (inl read) = missing_read words name file counts names read
-missing_in words name file counts names (inr (text, held, why)) = absurd why
+missing_in words name file counts names (inr (text, held, inl (no_program, why))) = missing_read words name file counts names why
+missing_in words name file counts names (inr (text, held, inr same)) = absurd cc
 
 missing_said : (name : List ℕ) (made : Option Image) (marks : Option ℕ) (words : List (List ℕ)) (counts : FileCounts) (before after : Streams)
     → Performed made (MissingFile name) marks words counts before after → Rose counts.absences_before counts.absences_after × NamesToRead words name × Holds counts.told name None
@@ -262,19 +268,20 @@ missing ending made said marks words counts before after performed report name i
     missing_said name made marks words counts before after (subst (λ (e : Ending). Performed made e marks words counts before after) same performed)
 
 file_fault_read : (words : List (List ℕ)) (name file : List ℕ) (counts : FileCounts) → NamesToRead words file → RefusesRead (FileFault name) file counts
-    → Rose counts.faults_before counts.faults_after × NamesToRead words name × (IsSome counts.told → counts.blamed ≡ name)
+    → Rose counts.faults_before counts.faults_after × MayRead words name × (IsSome counts.told → counts.blamed ≡ name)
 file_fault_read words name file counts names why =
-    (why.2, subst (λ (f : List ℕ). NamesToRead words f) (sym why.0) names, subst (λ (f : List ℕ). IsSome counts.told → counts.blamed ≡ f) (sym why.0) why.1)
+    (why.2, inl (subst (λ (f : List ℕ). NamesToRead words f) (sym why.0) names), subst (λ (f : List ℕ). IsSome counts.told → counts.blamed ≡ f) (sym why.0) why.1)
 
-file_fault_in : (words : List (List ℕ)) (name file : List ℕ) (counts : FileCounts) → NamesToRead words file → RefusesFile (FileFault name) file counts
-    → Rose counts.faults_before counts.faults_after × NamesToRead words name × (IsSome counts.told → counts.blamed ≡ name)
-file_fault_in words name file counts names (inl read) = file_fault_read words name file counts names read
-file_fault_in words name file counts names (inr (text, held, why)) = absurd why
+file_fault_in : (words : List (List ℕ)) (name file : List ℕ) (steps : ℕ) (counts : FileCounts) → Asks words file steps → RefusesFile (FileFault name) file counts
+    → Rose counts.faults_before counts.faults_after × MayRead words name × (IsSome counts.told → counts.blamed ≡ name)
+file_fault_in words name file steps counts asks (inl read) = file_fault_read words name file counts (inl (steps, asks)) read
+file_fault_in words name file steps counts asks (inr (text, held, inl (no_program, why))) = (why.1, inr (file, steps, asks), why.0)
+file_fault_in words name file steps counts asks (inr (text, held, inr same)) = absurd cc
 
 file_fault_said : (name : List ℕ) (made : Option Image) (marks : Option ℕ) (words : List (List ℕ)) (counts : FileCounts) (before after : Streams)
-    → Performed made (FileFault name) marks words counts before after → Rose counts.faults_before counts.faults_after × NamesToRead words name × (IsSome counts.told → counts.blamed ≡ name)
+    → Performed made (FileFault name) marks words counts before after → Rose counts.faults_before counts.faults_after × MayRead words name × (IsSome counts.told → counts.blamed ≡ name)
 file_fault_said name made marks words counts before after (refused none unmarked why kept) = absurd why
-file_fault_said name None marks words counts before after (ran file steps stats asks runs kept) = file_fault_in words name file counts (inl (steps, (stats, asks))) runs.0
+file_fault_said name None marks words counts before after (ran file steps stats asks runs kept) = file_fault_in words name file steps counts (stats, asks) runs.0
 file_fault_said name (Some image) marks words counts before after (ran file steps stats asks runs kept) = absurd runs.2.1
 file_fault_said name made marks words counts before after (ran_image file steps stats none asks (inl (why, unmarked, kept))) =
     file_fault_read words name file counts (inr (steps, stats, asks)) why
@@ -282,7 +289,32 @@ file_fault_said name made marks words counts before after (ran_image file steps 
     absurd (not_of_image (image_at bytes) steps stats (FileFault name) marks before after runs (λ h. h) (λ fault offset e. cc))
 
 pub file_fault : (ending : Ending) (made : Option Image) (said : Ending) (marks : Option ℕ) (words : List (List ℕ)) (counts : FileCounts) (before after : Streams) → Performed made said marks words counts before after → IsUnless said ending → (name : List ℕ) → ending ≡ FileFault name
-    → Rose counts.faults_before counts.faults_after × NamesToRead words name × (IsSome counts.told → counts.blamed ≡ name)
+    → Rose counts.faults_before counts.faults_after × MayRead words name × (IsSome counts.told → counts.blamed ≡ name)
 file_fault ending made said marks words counts before after performed report name is =
     let same = refusal_is ending said (FileFault name) report is (λ e. cc) (λ e. cc) in
     file_fault_said name made marks words counts before after (subst (λ (e : Ending). Performed made e marks words counts before after) same performed)
+
+-- ---- a rule that is broken
+
+abbrev Breaks : Rule → (words : List (List ℕ)) → FileCounts → Type 0
+Breaks rule words counts = IsTextRule rule × (rule ≡ K40 → Rose counts.absences_before counts.absences_after) × NoProgram words counts.told
+
+rejected_in : (rule : Rule) (place : Place) (name : List ℕ) (words : List (List ℕ)) (file : List ℕ) (steps : ℕ) (counts : FileCounts) → Asks words file steps → RefusesFile (Rejected rule place name) file counts → Breaks rule words counts
+rejected_in rule place name words file steps counts asks (inl read) = absurd read
+rejected_in rule place name words file steps counts asks (inr (text, held, inl (no_program, why))) = (why.0, why.1, (file, steps, text, asks, held, no_program))
+rejected_in rule place name words file steps counts asks (inr (text, held, inr same)) = absurd cc
+
+rejected_said : (rule : Rule) (place : Place) (name : List ℕ) (made : Option Image) (marks : Option ℕ) (words : List (List ℕ)) (counts : FileCounts) (before after : Streams)
+    → Performed made (Rejected rule place name) marks words counts before after → Breaks rule words counts
+rejected_said rule place name made marks words counts before after (refused none unmarked why kept) = absurd why
+rejected_said rule place name None marks words counts before after (ran file steps stats asks runs kept) = rejected_in rule place name words file steps counts (stats, asks) runs.0
+rejected_said rule place name (Some image) marks words counts before after (ran file steps stats asks runs kept) = absurd runs.2.1
+rejected_said rule place name made marks words counts before after (ran_image file steps stats none asks (inl (why, unmarked, kept))) = absurd why
+rejected_said rule place name made marks words counts before after (ran_image file steps stats none asks (inr (bytes, held, runs))) =
+    absurd (not_of_image (image_at bytes) steps stats (Rejected rule place name) marks before after runs (λ h. h) (λ fault offset e. cc))
+
+pub rejected : (ending : Ending) (made : Option Image) (said : Ending) (marks : Option ℕ) (words : List (List ℕ)) (counts : FileCounts) (before after : Streams) → Performed made said marks words counts before after → IsUnless said ending
+    → (rule : Rule) (place : Place) (name : List ℕ) → ending ≡ Rejected rule place name → Breaks rule words counts
+rejected ending made said marks words counts before after performed report rule place name is =
+    let same = refusal_is ending said (Rejected rule place name) report is (λ e. cc) (λ e. cc) in
+    rejected_said rule place name made marks words counts before after (subst (λ (e : Ending). Performed made e marks words counts before after) same performed)

@@ -1,6 +1,9 @@
 -- What the tool says of each ending.
 use Rattle.std.specs.Prelude.{ℕ, ◌==◌, if◌then◌else◌, List, [], ◌∷◌, ◌++◌, codes, Bool, Option, Some, None}
 use Rattle.std.specs.Fmt.{decimal}
+use Rattle.fsc_base.specs.Rule.{code_of}
+use Rattle.fsc_base.specs.declared.place.Place.{Place}
+use Rattle.fsc_base.specs.declared.rule.Rule.{Rule}
 use Rattle.elf_image.specs.declared.fault.ElfFault.{ElfFault}
 use Rattle.elf_image.specs.declared.fault.ElfFault.TheVariants as elf
 use Rattle.rv_run.specs.declared.stop.TrapKind.{TrapKind}
@@ -8,7 +11,7 @@ use Rattle.rv_run.specs.declared.stop.TrapKind.TheVariants as trap
 use Rattle.rv_run.specs.declared.stop.Stop.{Stop}
 use Rattle.rv_run.specs.declared.stop.Stop.TheVariants as stop
 use Rattle.fsc.specs.declared.ending.Ending.{Ending}
-use Rattle.fsc.specs.declared.ending.Ending.TheVariants.{Exited, Stopped, OutOfStorage, StepsUsed, Usage, MissingFile, FileFault, ReadFault, WriteFault, NoteFault, BadImage, Trap, NotBuilt, NoMemory}
+use Rattle.fsc.specs.declared.ending.Ending.TheVariants.{Exited, Stopped, OutOfStorage, StepsUsed, Usage, MissingFile, FileFault, ReadFault, WriteFault, NoteFault, Rejected, BadImage, Trap, NotBuilt, NoMemory}
 use Rattle.fsc.specs.declared.ending.StopKind.{StopKind}
 use Rattle.fsc.specs.declared.ending.StopKind.TheVariants.{Access, Call, Divide, Abort, ReadOnly}
 use Rattle.fsc.specs.declared.ending.Storage.{Storage}
@@ -60,6 +63,7 @@ status_of (FileFault name) = 126
 status_of ReadFault = 127
 status_of WriteFault = 127
 status_of NoteFault = 127
+status_of (Rejected rule place name) = 123
 status_of (BadImage fault offset) = 119
 status_of (Trap kind pc) = 118
 status_of (NotBuilt form) = 116
@@ -109,6 +113,10 @@ trap_name trap.Call = codes "Call"
 abbrev pub numbered : List ℕ → ℕ → List ℕ
 numbered text n = text ++ (codes " " ++ decimal n)
 
+-- the file, the line in it, and the rule that is broken there
+abbrev pub rejection : Rule → Place → (file : List ℕ) → List ℕ
+rejection rule at file = file ++ (codes ":" ++ (decimal at.line ++ (codes ": " ++ code_of rule)))
+
 -- the line on standard error, where there is one
 abbrev pub note_of : Ending → List ℕ
 note_of (Exited status) = []
@@ -121,6 +129,7 @@ note_of (FileFault name) = line (codes "fault " ++ name)
 note_of ReadFault = line (codes "fault input")
 note_of WriteFault = line (codes "fault output")
 note_of NoteFault = []
+note_of (Rejected rule at name) = line (rejection rule at name)
 note_of (BadImage fault offset) = line (numbered (codes "bad image " ++ fault_name fault) offset)
 note_of (Trap kind pc) = line (numbered (codes "trap " ++ trap_name kind) pc)
 note_of (NotBuilt form) = line (codes "not built")

@@ -1,6 +1,8 @@
 -- Why the tool answers as it does before the lines of notes are written.
-use Rattle.std.specs.Prelude.{◌≡◌, ℕ, ◌⊎◌, List, Bool, Option, Some, None, IsSome}
+use Rattle.std.specs.Prelude.{◌≡◌, ℕ, ◌⊎◌, List, [], ◌∷◌, Any, Bool, Option, Some, None, IsSome}
 use Rattle.fsc_base.specs.declared.image.Image.{Image}
+use Rattle.fsc_base.specs.declared.rule.Rule.{Rule}
+use Rattle.fsc_base.specs.declared.rule.Rule.TheVariants.{K31, K32, K33, K34, K35, K36, K37, K38, K39, K40, K41, K42, K43, K44, K45, L01, L02, L04, L06, L10, L14, L15}
 use Rattle.fsc_outside.specs.Counts.{Rose}
 use Rattle.fsc_outside.specs.FileMap.{FileMap, Holds}
 use Rattle.elf_image.specs.Reading.{image_at}
@@ -10,7 +12,7 @@ use Rattle.plain_text.specs.declared.program.Program.{Program}
 use Rattle.plain_text.specs.Program.{IsPlain}
 use Rattle.command_line.specs.Requests.{IsUsable}
 use Rattle.fsc.specs.declared.ending.Ending.{Ending}
-use Rattle.fsc.specs.declared.ending.Ending.TheVariants.{Exited, Stopped, OutOfStorage, StepsUsed, Usage, MissingFile, FileFault, ReadFault, WriteFault, NoteFault, BadImage, Trap, NotBuilt, NoMemory}
+use Rattle.fsc.specs.declared.ending.Ending.TheVariants.{Exited, Stopped, OutOfStorage, StepsUsed, Usage, MissingFile, FileFault, ReadFault, WriteFault, NoteFault, Rejected, BadImage, Trap, NotBuilt, NoMemory}
 use Rattle.fsc.specs.declared.ending.Form.TheVariants.{Command, Text}
 use Rattle.fsc.specs.Words.{AsksWith, AsksRun, IsUnbuilt}
 use Rattle.fsc.specs.Tool.{IsImageOf, Answers, MarksOf, RunsImage}
@@ -24,23 +26,41 @@ pub record FileCounts : Type 0 where
   pub absences_before : ℕ
   pub absences_after : ℕ
 
--- why a text is no program that is built
-abbrev pub RefusesText : (text : List ℕ) → Ending → Type 0
-RefusesText text (Exited status) = ⊥
-RefusesText text (Stopped kind block offset width) = ⊥
-RefusesText text (OutOfStorage storage) = ⊥
-RefusesText text (StepsUsed n) = ⊥
-RefusesText text Usage = ⊥
-RefusesText text (MissingFile name) = ⊥
-RefusesText text (FileFault name) = ⊥
-RefusesText text ReadFault = ⊥
-RefusesText text WriteFault = ⊥
-RefusesText text NoteFault = ⊥
-RefusesText text (BadImage fault offset) = ⊥
-RefusesText text (Trap kind pc) = ⊥
-RefusesText text (NotBuilt Text) = (program : Program) → IsPlain text program → ⊥
-RefusesText text (NotBuilt Command) = ⊥
-RefusesText text NoMemory = Unit {0}
+-- the text is that of no program
+abbrev pub IsNoProgram : List ℕ → Type 0
+IsNoProgram text = (program : Program) → IsPlain text program → ⊥
+
+-- the rules of texts before they are parsed
+abbrev pub text_rules : List Rule
+text_rules =
+    K31 ∷ K32 ∷ K33 ∷ K34 ∷ K35 ∷ K36 ∷ K37 ∷ K38 ∷ K39 ∷ K40 ∷ K41 ∷ K42 ∷ K43 ∷ K44 ∷ K45 ∷ L01 ∷ L02 ∷ L04 ∷ L06 ∷ L10 ∷ L14 ∷ L15 ∷ []
+
+-- it is one of them
+abbrev pub IsTextRule : Rule → Type 0
+IsTextRule rule = Any (λ (one : Rule). rule ≡ one) text_rules
+
+-- why a unit, with what it includes, is outside what is built
+abbrev pub RefusesUnit : Ending → (file : List ℕ) → FileCounts → Type 0
+RefusesUnit (Exited status) file counts = ⊥
+RefusesUnit (Stopped kind block offset width) file counts = ⊥
+RefusesUnit (OutOfStorage storage) file counts = ⊥
+RefusesUnit (StepsUsed n) file counts = ⊥
+RefusesUnit Usage file counts = ⊥
+RefusesUnit (MissingFile name) file counts = (name ≡ file) × Holds counts.told file None × Rose counts.absences_before counts.absences_after
+RefusesUnit (FileFault name) file counts = (IsSome counts.told → counts.blamed ≡ name) × Rose counts.faults_before counts.faults_after
+RefusesUnit ReadFault file counts = ⊥
+RefusesUnit WriteFault file counts = ⊥
+RefusesUnit NoteFault file counts = ⊥
+RefusesUnit (Rejected rule place name) file counts = IsTextRule rule × (rule ≡ K40 → Rose counts.absences_before counts.absences_after)
+RefusesUnit (BadImage fault offset) file counts = ⊥
+RefusesUnit (Trap kind pc) file counts = ⊥
+RefusesUnit (NotBuilt Text) file counts = Unit {0}
+RefusesUnit (NotBuilt Command) file counts = ⊥
+RefusesUnit NoMemory file counts = Unit {0}
+
+-- why the text of a file is no program that is built
+abbrev pub RefusesText : (text file : List ℕ) → FileCounts → Ending → Type 0
+RefusesText text file counts ending = (IsNoProgram text × RefusesUnit ending file counts) ⊎ (ending ≡ NoMemory)
 
 -- the ending with the file's name, or memory was refused
 abbrev pub NamesFile : (List ℕ → Ending) → List ℕ → Ending → Type 0
@@ -58,6 +78,7 @@ RefusesRead (FileFault name) file counts = (name ≡ file) × (IsSome counts.tol
 RefusesRead ReadFault file counts = ⊥
 RefusesRead WriteFault file counts = ⊥
 RefusesRead NoteFault file counts = ⊥
+RefusesRead (Rejected rule place name) file counts = ⊥
 RefusesRead (BadImage fault offset) file counts = ⊥
 RefusesRead (Trap kind pc) file counts = ⊥
 RefusesRead (NotBuilt form) file counts = ⊥
@@ -65,7 +86,7 @@ RefusesRead NoMemory file counts = Unit {0}
 
 -- why a file gave no program
 abbrev pub RefusesFile : Ending → (file : List ℕ) → FileCounts → Type 0
-RefusesFile ending file counts = RefusesRead ending file counts ⊎ ((text : List ℕ) × Holds counts.told file (Some text) × RefusesText text ending)
+RefusesFile ending file counts = RefusesRead ending file counts ⊎ ((text : List ℕ) × Holds counts.told file (Some text) × RefusesText text file counts ending)
 
 -- the file has a text that is the program's
 abbrev pub GivesProgram : Program → (file : List ℕ) (told : Option FileMap) → Type 0
@@ -102,6 +123,7 @@ RefusesWords (FileFault name) words = ⊥
 RefusesWords ReadFault words = ⊥
 RefusesWords WriteFault words = ⊥
 RefusesWords NoteFault words = ⊥
+RefusesWords (Rejected rule place name) words = ⊥
 RefusesWords (BadImage fault offset) words = ⊥
 RefusesWords (Trap kind pc) words = ⊥
 RefusesWords (NotBuilt Command) words = IsUnbuilt words

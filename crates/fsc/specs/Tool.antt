@@ -3,6 +3,8 @@
 -- output holds, where they tell.
 use Rattle.std.specs.Prelude.{◌≡◌, ℕ, ◌≤◌, ◌⊎◌, List, ◌++◌, take, length, Bool, Option, Some, None, Result, Ok, Err}
 use Rattle.fsc_base.specs.declared.image.Image.{Image}
+use Rattle.fsc_base.specs.declared.place.Place.{Place}
+use Rattle.fsc_base.specs.declared.rule.Rule.{Rule}
 use Rattle.fsc_outside.specs.FileMap.{FileMap, Holds}
 use Rattle.fsc_outside.specs.Streams.{Appends, AppendsFront}
 use Rattle.elf_image.specs.declared.fault.ReadElfNo.{ReadElfNo}
@@ -16,7 +18,8 @@ use Rattle.plain_text.specs.declared.program.Program.{Program}
 use Rattle.plain_text.specs.Program.{IsPlain}
 use Rattle.plain_image.specs.Writing.{Writes}
 use Rattle.fsc.specs.declared.ending.Ending.{Ending}
-use Rattle.fsc.specs.declared.ending.Ending.TheVariants.{Exited, Stopped, OutOfStorage, StepsUsed, Usage, MissingFile, FileFault, ReadFault, WriteFault, NoteFault, BadImage, Trap, NotBuilt, NoMemory}
+use Rattle.fsc.specs.declared.ending.Ending.TheVariants.{Exited, Stopped, OutOfStorage, StepsUsed, Usage, MissingFile, FileFault, ReadFault, WriteFault, NoteFault, Rejected, BadImage, Trap, NotBuilt, NoMemory}
+use Rattle.fsc.specs.declared.ending.Form.TheVariants.{Text}
 use Rattle.fsc.specs.Words.{Asks, AsksRun}
 use Rattle.fsc.specs.Ending.{ending_of, told_marks, note_of, marks_line}
 
@@ -51,6 +54,7 @@ Answers run steps (FileFault name) before after = ⊥
 Answers run steps ReadFault before after = ⊥
 Answers run steps WriteFault before after = AppendsFront before after run.written
 Answers run steps NoteFault before after = ⊥
+Answers run steps (Rejected rule place name) before after = ⊥
 Answers run steps (BadImage fault offset) before after = ⊥
 Answers run steps (Trap kind pc) before after = ⊥
 Answers run steps (NotBuilt form) before after = ⊥
@@ -68,6 +72,7 @@ MarksOf run stats (FileFault name) marks = marks ≡ None
 MarksOf run stats ReadFault marks = marks ≡ None
 MarksOf run stats WriteFault marks = marks ≡ None
 MarksOf run stats NoteFault marks = marks ≡ None
+MarksOf run stats (Rejected rule place name) marks = marks ≡ None
 MarksOf run stats (BadImage fault offset) marks = marks ≡ None
 MarksOf run stats (Trap kind pc) marks = marks ≡ None
 MarksOf run stats (NotBuilt form) marks = marks ≡ None
@@ -85,6 +90,7 @@ IsRefusal (FileFault name) = Unit {0}
 IsRefusal ReadFault = ⊥
 IsRefusal WriteFault = ⊥
 IsRefusal NoteFault = ⊥
+IsRefusal (Rejected rule place name) = Unit {0}
 IsRefusal (BadImage fault offset) = ⊥
 IsRefusal (Trap kind pc) = ⊥
 IsRefusal (NotBuilt form) = Unit {0}
@@ -116,6 +122,7 @@ IsOfRun (FileFault name) = ⊥
 IsOfRun ReadFault = Unit {0}
 IsOfRun WriteFault = Unit {0}
 IsOfRun NoteFault = ⊥
+IsOfRun (Rejected rule place name) = ⊥
 IsOfRun (BadImage fault offset) = ⊥
 IsOfRun (Trap kind pc) = Unit {0}
 IsOfRun (NotBuilt form) = ⊥
@@ -170,6 +177,7 @@ IsEnd (FileFault name) = ⊥
 IsEnd ReadFault = ⊥
 IsEnd WriteFault = ⊥
 IsEnd NoteFault = ⊥
+IsEnd (Rejected rule place name) = ⊥
 IsEnd (BadImage fault offset) = ⊥
 IsEnd (Trap kind pc) = ⊥
 IsEnd (NotBuilt form) = ⊥
@@ -182,6 +190,11 @@ IsUnless said ending = (ending ≡ said) ⊎ ((ending ≡ NoteFault) ⊎ (ending
 -- the same, or a fault of a file
 abbrev pub IsUnlessFault : Ending → Ending → Type 0
 IsUnlessFault said ending = IsUnless said ending ⊎ ((name : List ℕ) × (ending ≡ FileFault name))
+
+-- the text is outside what is built, or it breaks a rule
+abbrev pub IsRefusedText : Ending → Type 0
+IsRefusedText ending =
+    IsUnlessFault (NotBuilt Text) ending ⊎ ((rule : Rule) × (place : Place) × (name : List ℕ) × (ending ≡ Rejected rule place name))
 
 -- the lines of an ending, after that of the marks if they are told
 abbrev pub notes_of : Option ℕ → Ending → List ℕ
@@ -199,6 +212,7 @@ IsNoted marks (FileFault name) before after = Appends before after (notes_of mar
 IsNoted marks ReadFault before after = Appends before after (notes_of marks ReadFault)
 IsNoted marks WriteFault before after = Appends before after (notes_of marks WriteFault)
 IsNoted marks NoteFault before after = (said : Ending) × AppendsFront before after (notes_of marks said)
+IsNoted marks (Rejected rule place name) before after = Appends before after (notes_of marks (Rejected rule place name))
 IsNoted marks (BadImage fault offset) before after = Appends before after (notes_of marks (BadImage fault offset))
 IsNoted marks (Trap kind pc) before after = Appends before after (notes_of marks (Trap kind pc))
 IsNoted marks (NotBuilt form) before after = Appends before after (notes_of marks (NotBuilt form))

@@ -30,3 +30,7 @@ IsUnbuilt words = (asked : Request) × Listed words asked × IsUnbuiltRequest as
 -- the file is one to be read
 abbrev pub NamesToRead : List (List ℕ) → (file : List ℕ) → Type 0
 NamesToRead words file = ((steps : ℕ) × Asks words file steps) ⊎ ((steps : ℕ) × (stats : Bool) × AsksRun words file steps stats)
+
+-- a file that a text includes may be read besides
+abbrev pub MayRead : List (List ℕ) → (file : List ℕ) → Type 0
+MayRead words file = NamesToRead words file ⊎ ((unit : List ℕ) × (steps : ℕ) × Asks words unit steps)

@@ -5,7 +5,7 @@ ghost use Rattle.fsc.specs.Ending.{status_of, ending_of, stopped_as};
 ghost use Rattle.fsc.specs.Tool.{IsOfRun};
 
 use elf_image::ElfFault;
-use fsc_base::Name;
+use fsc_base::{Name, Place, Rule};
 use rv_run::{Stop, TrapKind};
 
 /// What is not built yet.
@@ -69,6 +69,12 @@ pub enum Ending {
     WriteFault,
     /// The notes refused a write.
     NoteFault,
+    /// A text breaks a rule at a place of a file.
+    Rejected {
+        rule: Rule,
+        place: Place,
+        file: Name,
+    },
     /// The file is no image: its first fault, and where in the file, in bytes.
     BadImage {
         fault: ElfFault,
@@ -98,6 +104,7 @@ pub fn status(ending: &Ending) -> u8
         Ending::Usage => 125,
         Ending::MissingFile(_) | Ending::FileFault(_) => 126,
         Ending::ReadFault | Ending::WriteFault | Ending::NoteFault => 127,
+        Ending::Rejected { .. } => 123,
         Ending::BadImage { .. } => 119,
         Ending::Trap { .. } => 118,
         Ending::NotBuilt(_) => 116,

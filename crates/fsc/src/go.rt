@@ -3,10 +3,10 @@
 ghost use Rattle.std.specs.Prelude.{◌≡◌, ◌≢◌, ◌≤◌, length, IfOk, IfErr, None};
 ghost use Rattle.fsc_outside.specs.Counts.{Rose};
 ghost use Rattle.rv_run.specs.ImageRun.{given_of};
-ghost use Rattle.fsc.specs.Performing.{RefusesText, GivesProgram, RefusesFile, RunsProgram, RunsFile};
-ghost use Rattle.plain_text.specs.Program.{IsPlain};
+ghost use Rattle.fsc.specs.Performing.{GivesProgram, RefusesFile, RunsProgram, RunsFile};
 
-use crate::ending::{Ending, Form};
+use crate::ending::Ending;
+use crate::front::refusal;
 use crate::reading::read_file;
 use crate::running::{Done, run_machine};
 use fsc_base::{Image, Name};
@@ -15,18 +15,6 @@ use plain_image::image;
 use plain_text::{Program, ReadNo, read_program};
 use rv_run::Machine;
 use std::alloc::Global;
-
-/// The program of a text, or the refusal of it.
-fn program_of(alloc: Global, text: &[u8]) -> Result<Program, Ending>
-    ensures plain { IfOk result (IsPlain text.now) }
-    ensures refused { IfErr result (RefusesText text.now) }
-{
-    match read_program(alloc, text) {
-        Ok(program) => Ok(program),
-        Err(ReadNo::NotPlain) => Err(Ending::NotBuilt(Form::Text)),
-        Err(ReadNo::NoMemory) => Err(Ending::NoMemory),
-    }
-}
 
 /// Reads the program in a file, or answers why there is none.
 fn read<F: Files>(alloc: Global, files: &mut F, file: &Name) -> Result<Program, Ending>
@@ -43,9 +31,14 @@ fn read<F: Files>(alloc: Global, files: &mut F, file: &Name) -> Result<Program, 
     ensures faults_counted { F.fault_count files.old ≤ F.fault_count files.new }
     ensures absences_counted { F.absence_count files.old ≤ F.absence_count files.new }
 {
-    match read_file(alloc, files, file) {
-        Ok(text) => program_of(alloc, text.as_slice()),
-        Err(ending) => Err(ending),
+    let text = read_file(alloc, files, file)?;
+    match read_program(alloc, text.as_slice()) {
+        Ok(program) => Ok(program),
+        Err(ReadNo::NotPlain) => {
+            drop(text);
+            Err(refusal(alloc, files, file))
+        },
+        Err(ReadNo::NoMemory) => Err(Ending::NoMemory),
     }
 }
 

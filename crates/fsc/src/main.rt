@@ -4,6 +4,7 @@
 
 mod arguments;
 mod ending;
+mod front;
 mod go;
 mod note;
 mod reading;

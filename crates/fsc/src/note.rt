@@ -4,12 +4,12 @@ ghost use Rattle.std.specs.Prelude.{◌≡◌, ◌++◌, ◌≤◌, ◌⊎◌, I
 ghost use Rattle.std.specs.Fmt.{decimal};
 ghost use Rattle.fsc_outside.specs.Counts.{Rose};
 ghost use Rattle.fsc_outside.specs.Streams.{Appends, AppendsFront};
-ghost use Rattle.fsc.specs.Ending.{line, place, extent, stop_text, storage_text, fault_name, trap_name, numbered, note_of, marks_line};
+ghost use Rattle.fsc.specs.Ending.{line, place, extent, stop_text, storage_text, fault_name, trap_name, numbered, rejection, note_of, marks_line};
 ghost use Rattle.fsc.specs.Tool.{IsUnless, IsNoted};
 
 use crate::ending::{Ending, StopKind, Storage};
 use elf_image::ElfFault;
-use fsc_base::NoMemory;
+use fsc_base::{Name, NoMemory, Place, Rule};
 use fsc_outside::{Sink, Wrote, write_whole};
 use rv_run::TrapKind;
 use std::alloc::Global;
@@ -166,6 +166,22 @@ fn storage_text(storage: Storage) -> &'static [u8]
     }
 }
 
+/// The words of a rule that is broken: the file, the line in it, and the rule.
+fn rejection_text(
+    alloc: Global,
+    rule: Rule,
+    place: &Place,
+    file: &Name,
+) -> Result<Vec<u8>, NoMemory>
+    ensures { IfOk result (λ made. made.items ≡ rejection rule place.now file.now) }
+{
+    let mut text = joined(alloc, file.as_slice(), b":")?;
+    add_number(alloc, &mut text, u64::from(place.line))?;
+    text.extend_from_slice(b": ")?;
+    text.extend_from_slice(&rule.code())?;
+    Ok(text)
+}
+
 /// The line of an ending, where it has one.
 fn note(alloc: Global, ending: &Ending) -> Result<Vec<u8>, NoMemory>
     ensures { IfOk result (λ made. made.items ≡ note_of ending.now) }
@@ -185,6 +201,7 @@ fn note(alloc: Global, ending: &Ending) -> Result<Vec<u8>, NoMemory>
         Ending::FileFault(name) => joined(alloc, b"fault ", name.as_slice())?,
         Ending::ReadFault => joined(alloc, b"fault input", b"")?,
         Ending::WriteFault => joined(alloc, b"fault output", b"")?,
+        Ending::Rejected { rule, place, file } => rejection_text(alloc, *rule, place, file)?,
         Ending::BadImage { fault, offset } => bad_image_text(alloc, *fault, *offset)?,
         Ending::Trap { kind, pc } => trap_text(alloc, *kind, *pc)?,
         Ending::NotBuilt(_) => joined(alloc, b"not built", b"")?,

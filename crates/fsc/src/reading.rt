@@ -10,7 +10,7 @@ use fsc_outside::{Files, Got};
 use std::alloc::Global;
 
 /// The ending where there is no file of that name.
-fn missing(alloc: Global, name: &Name) -> Ending
+pub(crate) fn missing(alloc: Global, name: &Name) -> Ending
     ensures { NamesFile Ending.MissingFile name.now result }
 {
     match Name::from_slice(alloc, name.as_slice()) {

@@ -1,6 +1,9 @@
 //! The top call.
 
 ghost use Rattle.std.specs.Prelude.{◌≡◌, ◌≢◌, ℕ, List, ◌+◌, ◌*◌, ◌<◌, ◌≤◌, ◌⊎◌, length, Bool, Option, Some, None, IsSome};
+ghost use Rattle.fsc_base.specs.declared.place.Place.{Place};
+ghost use Rattle.fsc_base.specs.declared.rule.Rule.{Rule};
+ghost use Rattle.fsc_base.specs.declared.rule.Rule.TheVariants as Rule;
 ghost use Rattle.fsc_outside.specs.Counts.{Rose};
 ghost use Rattle.fsc_outside.specs.FileMap.{Holds};
 ghost use Rattle.fsc_outside.specs.Streams.{Appends, AppendsFront};
@@ -8,9 +11,9 @@ ghost use Rattle.elf_image.specs.Reading.{image_at};
 ghost use Rattle.plain_text.specs.declared.program.Program.{Program};
 ghost use Rattle.plain_text.specs.Program.{IsPlain};
 ghost use Rattle.command_line.specs.Requests.{IsUsable};
-ghost use Rattle.fsc.specs.Words.{Asks, AsksRun, IsUnbuilt, NamesToRead};
-ghost use Rattle.fsc.specs.Performing.{Performed};
-ghost use Rattle.fsc.specs.Tool.{Job, IsAsked, IsRunOf, RunsImage, AppendsAtLeast, IsEnd, IsUnless, IsUnlessFault, IsNoted};
+ghost use Rattle.fsc.specs.Words.{Asks, AsksRun, IsUnbuilt, NamesToRead, MayRead};
+ghost use Rattle.fsc.specs.Performing.{IsTextRule, Performed};
+ghost use Rattle.fsc.specs.Tool.{Job, IsAsked, IsRunOf, RunsImage, AppendsAtLeast, IsEnd, IsUnless, IsRefusedText, IsNoted};
 
 use crate::ending::{Ending, Form};
 use crate::go::go;
@@ -69,7 +72,10 @@ fn perform<F: Files, S: Source, O: Sink>(
                 image,
             },
         ) => run_file(alloc, &image, steps, stats, files, input, out),
-        Ok(_) => Done::without_run(Ending::NotBuilt(Form::Command)),
+        Ok(Request::Build { .. }) => Done::without_run(Ending::NotBuilt(Form::Command)),
+        Ok(Request::Compile { .. }) => Done::without_run(Ending::NotBuilt(Form::Command)),
+        Ok(Request::Link { .. }) => Done::without_run(Ending::NotBuilt(Form::Command)),
+        Ok(Request::Demo { .. }) => Done::without_run(Ending::NotBuilt(Form::Command)),
         Err(WordsNo::Usage) => Done::without_run(Ending::Usage),
         Err(WordsNo::NoMemory) => Done::without_run(Ending::NoMemory),
     }
@@ -131,11 +137,15 @@ pub fn tool<F: Files, S: Source, O: Sink, E: Sink>(
         Asks words.now file steps × Holds (F.contents files.old) file (Some text) × ((program : Program) → IsPlain text program → ⊥) }
     ensures text { (file : List ℕ) (steps : ℕ) (text : List ℕ) → IsSome (F.contents files.old) →
         Asks words.now file steps → Holds (F.contents files.old) file (Some text) → ((program : Program) → IsPlain text program → ⊥) →
-        IsUnlessFault (Ending.NotBuilt Form.Text) result }
+        IsRefusedText result }
+    ensures rejected { (rule : Rule) (place : Place) (name : List ℕ) → result ≡ Ending.Rejected rule place name →
+        IsTextRule rule × (rule ≡ Rule.K40 → Rose (F.absence_count files.old) (F.absence_count files.new)) ×
+        ((file : List ℕ) × (steps : ℕ) × (text : List ℕ) × Asks words.now file steps × Holds (F.contents files.old) file (Some text) ×
+        ((program : Program) → IsPlain text program → ⊥)) }
     ensures missing { (name : List ℕ) → result ≡ Ending.MissingFile name → Rose (F.absence_count files.old) (F.absence_count files.new) ×
         NamesToRead words.now name × Holds (F.contents files.old) name None }
     ensures file_fault { (name : List ℕ) → result ≡ Ending.FileFault name → Rose (F.fault_count files.old) (F.fault_count files.new) ×
-        NamesToRead words.now name × (IsSome (F.contents files.old) → F.blamed files.new ≡ name) }
+        MayRead words.now name × (IsSome (F.contents files.old) → F.blamed files.new ≡ name) }
     ensures read_fault { result ≡ Ending.ReadFault → Rose (S.fault_count input.old) (S.fault_count input.new) }
     ensures write_fault { result ≡ Ending.WriteFault → Rose (O.fault_count out.old) (O.fault_count out.new) }
     ensures note_fault { result ≡ Ending.NoteFault → Rose (E.fault_count notes.old) (E.fault_count notes.new) }

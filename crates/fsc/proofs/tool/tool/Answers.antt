@@ -1,7 +1,7 @@
 use Rattle.std.proofs.Common.{inl, inr}
 use Rattle.fsc.proofs.Performing.{is_run, image_runs, command_only, command, usage_only, usage}
 use Rattle.fsc.proofs.Promises.{prefix, exited, steps_used}
-use Rattle.fsc.proofs.Refusing.{ends, text, text_only, missing, file_fault}
+use Rattle.fsc.proofs.Refusing.{ends, text, text_only, rejected, missing, file_fault}
 use Rattle.fsc.proofs.tool.tool.Goals as goal
 
 pub returns-clause-run : goal.returns-clause-run
@@ -43,6 +43,9 @@ returns-clause-text_only g c = text_only _ _ _ _ _ _ _ _ c.perform-done.ensures.
 
 pub returns-clause-text : goal.returns-clause-text
 returns-clause-text g c = text _ _ _ _ _ _ _ _ c.perform-done.ensures.performed c.report.ensures.reported
+
+pub returns-clause-rejected : goal.returns-clause-rejected
+returns-clause-rejected g c = rejected _ _ _ _ _ _ _ _ c.perform-done.ensures.performed c.report.ensures.reported
 
 pub returns-clause-missing : goal.returns-clause-missing
 returns-clause-missing g c = missing _ _ _ _ _ _ _ _ c.perform-done.ensures.performed c.report.ensures.reported
