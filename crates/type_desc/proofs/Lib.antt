@@ -1,2 +1,4 @@
 pub mod PlaceLaws
 pub mod CellLaws
+pub mod PeriodLaws
+pub mod CountLaws

@@ -1,3 +1,4 @@
 pub mod Periods
 pub mod Places
+pub mod Tables
 pub mod Cells
