@@ -1,8 +1,8 @@
 -- Repeated lists, and the shortest list that gives another.
-use Rattle.std.proofs.Common.{◌≡◌, ℕ, zero, suc, ◌+◌, ◌-◌, ◌*◌, ◌/◌, ◌%◌, ◌<◌, ◌≤◌, ◌⊎◌, inl, inr, List, [], ◌∷◌, ◌++◌, length, take, drop, refl, sym, ap, ◌∙◌, subst, arith, length-append, append_assoc, add-one, zero-add}
+use Rattle.std.proofs.Common.{◌≡◌, ℕ, zero, suc, ◌+◌, ◌-◌, ◌*◌, ◌/◌, ◌%◌, ◌<◌, ◌≤◌, inl, inr, List, [], ◌∷◌, ◌++◌, length, take, drop, refl, sym, ap, ◌∙◌, arith, length-append, append_assoc, zero-add}
 use Rattle.std.proofs.Math.Nat.{mul-mod_left, suc-add}
 use Rattle.std.proofs.lemmas.Bool.{cases_lt}
-use Rattle.std.proofs.lemmas.List.{length-take-le, length-drop, take-append-drop, take-take, drop-take, take_at, drop_at, take_all, drop_all, nil_from_length, append-nil}
+use Rattle.std.proofs.lemmas.List.{length-take-le, length-drop, take-append-drop, take-take, drop-take, take_at, drop_at, take_all, nil_from_length, append-nil}
 use Rattle.fsc_base.specs.declared.word.WordKind.{WordKind}
 use Rattle.type_desc.specs.Periods.{repeated, IsLeastPeriod, IsShape, IsPeriod, OneLeastPeriod, LeastIsShape}
 

@@ -1,5 +1,7 @@
-//! The laws of shapes, places and cells.
+//! The laws of shapes, places, cells and descriptors.
 
+ghost use Rattle.type_desc.specs.Descriptors.{OneSpelling, ReadsBack};
+ghost use Rattle.type_desc.specs.Shapes.{FindsAdded, KeepsOthers};
 ghost use Rattle.type_desc.specs.Periods.{OneLeastPeriod, LeastIsShape};
 ghost use Rattle.type_desc.specs.Places.{ShapesLayOut, PlaneLaysOut};
 ghost use Rattle.type_desc.specs.Cells.{PlacesEach, PlacedOnce};
@@ -21,4 +23,16 @@ pub fn places_are_apart()
 pub fn cells_are_placed()
     ensures each { PlacesEach }
     ensures once { PlacedOnce }
+{}
+
+/// The law of descriptors. Bytes begin with the descriptor of one shape at most, so a shape is read back from its own.
+pub fn descriptors_read_back()
+    ensures one { OneSpelling }
+    ensures back { ReadsBack }
+{}
+
+/// The law of lists of shapes. A shape that was added is found by its number, and each other number gives what it gave.
+pub fn shapes_are_found()
+    ensures added { FindsAdded }
+    ensures others { KeepsOthers }
 {}

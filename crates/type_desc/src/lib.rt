@@ -2,11 +2,16 @@
 //! cell.
 #![tactic(auto)]
 
+mod descriptor;
 mod kinds;
 mod laws;
 mod period;
 mod shape;
+mod shapes;
 
+pub use descriptor::{decode_desc, encode_desc};
 pub use kinds::Kinds;
-pub use laws::{cells_are_placed, places_are_apart, shapes_are_least};
+pub use laws::{
+    cells_are_placed, descriptors_read_back, places_are_apart, shapes_are_found, shapes_are_least,
+};
 pub use shape::{Shape, place};

@@ -1,11 +1,10 @@
-use Rattle.std.proofs.Common.{◌≡◌, ◌-◌, Bool, true, false, length, take, drop, List, refl, sym, ◌∙◌}
-use Rattle.std.specs.Bool.{Decides, IsTrue}
+use Rattle.std.proofs.Common.{◌≡◌, ◌-◌, length, take, drop, refl, sym, ◌∙◌}
+use Rattle.std.specs.Bool.{Decides}
 use Rattle.std.proofs.lemmas.List.{take_rest}
 use Rattle.std.proofs.lemmas.Slice.Eq.{slice_eq-Decides}
 use Rattle.fsc_base.specs.declared.word.WordKind.{WordKind}
 use Rattle.fsc_base.specs.declared.word.WordKind.TheVariants.{Fat, Narrow}
 use Rattle.fsc_base.specs.contracts.word.WordKindPartialEq.TheImpl.{eq-value}
-use Rattle.type_desc.specs.Periods.{IsPeriod}
 use Rattle.type_desc.proofs.period.is_period.Goals as goal
 
 same_kind : (a b : WordKind) → Decides (eq-value.it a b) (a ≡ b)

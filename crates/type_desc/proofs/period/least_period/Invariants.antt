@@ -1,4 +1,4 @@
-use Rattle.std.proofs.Common.{◌≡◌, ◌≤◌, ℕ, length}
+use Rattle.std.proofs.Common.{◌≤◌, ℕ, length}
 use Rattle.type_desc.specs.Periods.{IsPeriod}
 use Rattle.type_desc.proofs.period.least_period.Given as goal
 

@@ -1,4 +1,4 @@
-use Rattle.std.proofs.Common.{◌≡◌, ◌+◌, ◌≤◌, ◌++◌, ◌∷◌, [], arith, ap, sym, ◌∙◌, get_or, ℕ, length, List}
+use Rattle.std.proofs.Common.{◌≡◌, ◌+◌, arith, ap, ◌∙◌, get_or, ℕ, length, List}
 use Rattle.std.proofs.lemmas.List.{length_push}
 use Rattle.type_desc.specs.Places.{fats_before}
 use Rattle.type_desc.proofs.CountLaws.{fats_more, fats-le, table_more}

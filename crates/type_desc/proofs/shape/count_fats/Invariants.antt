@@ -1,4 +1,4 @@
-use Rattle.std.proofs.Common.{◌≡◌, ◌≤◌, ◌+◌, ℕ, length, vec_len, get_or}
+use Rattle.std.proofs.Common.{◌≡◌, ◌≤◌, ◌+◌, ℕ, length, get_or}
 use Rattle.type_desc.specs.Places.{fats_before}
 use Rattle.type_desc.proofs.shape.count_fats.Given as goal
 

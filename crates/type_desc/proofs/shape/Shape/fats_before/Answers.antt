@@ -1,4 +1,4 @@
-use Rattle.std.proofs.Common.{◌≡◌, ◌+◌, ◌*◌, ◌/◌, ◌%◌, ◌≤◌, arith, ap, ◌∙◌}
+use Rattle.std.proofs.Common.{arith, ap, ◌∙◌}
 use Rattle.type_desc.specs.Places.{fats_before}
 use Rattle.type_desc.proofs.CountLaws.{table_split, table_part, fats-le}
 use Rattle.type_desc.proofs.shape.Shape.fats_before.Goals as goal

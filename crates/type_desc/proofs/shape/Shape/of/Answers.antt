@@ -1,7 +1,7 @@
-use Rattle.std.proofs.Common.{◌≡◌, take, arith, sym, subst, List}
+use Rattle.std.proofs.Common.{take, sym, subst, List}
 use Rattle.std.proofs.lemmas.Result.{IfOk-weaker}
 use Rattle.fsc_base.specs.declared.word.WordKind.{WordKind}
-use Rattle.type_desc.specs.Periods.{IsLeastPeriod, IsShape}
+use Rattle.type_desc.specs.Periods.{IsLeastPeriod}
 use Rattle.type_desc.proofs.PeriodLaws.{least_from_period, least_is_shape}
 use Rattle.type_desc.proofs.shape.Shape.of.Goals as goal
 
