@@ -7,8 +7,8 @@ use Rattle.std.proofs.lemmas.Bool.Decides.{eqb_tells}
 use Rattle.std.proofs.lemmas.Grind.{same_number_lists}
 use Rattle.fsc_base.specs.declared.word.WordKind.{WordKind}
 use Rattle.fsc_base.specs.declared.word.WordKind.TheVariants.{Narrow}
-use Rattle.type_desc.specs.Places.{kind_at, narrows_before, value_at, base_at}
-use Rattle.type_desc.specs.Cells.{IsPlaced, IsPlacedIn, front_of, back_of, fronts, backs, placed_of, PlacedSize, PlacesEach, PlacedOnce, ZerosPlaced, SetsValue, SetsBase}
+use Rattle.type_desc.specs.Places.{placed, kind_at, narrows_before, value_at, base_at}
+use Rattle.type_desc.specs.Cells.{IsPlaced, IsPlacedIn, front_of, back_of, fronts, backs, placed_of, PlacedSize, PlacesEach, PlacedOnce, ZerosPlaced, SetsValue, SetsBase, TenBytes}
 use Rattle.type_desc.proofs.PlaceLaws.{front_end, FatAt, NarrowAt, cases_at, narrow_at, grown, fats_and_narrows, shape_layout}
 
 -- what a word adds
@@ -216,14 +216,14 @@ set_reads : (place : ℕ → ℕ) (total : ℕ) (items words : List ℕ) → ((v
     → (w v : ℕ) → w < total → w < length items → (k : ℕ) → k < total → slice_index (slice_set words (place w) v) (place k) ≡ slice_index (slice_set items w v) k
 set_reads place total items words apart within same w v h in_items k hk = elim (eqb_tells k w) [
   | inl here ↦
-    ap (λ j. slice_index (slice_set words (place w) v) (place j)) here.1
-    ∙ get_or-set_same words (place w) v 0 (within w h)
-    ∙ sym (get_or-set_same items w v 0 in_items)
-    ∙ ap (λ j. slice_index (slice_set items w v) j) (sym here.1)
+      ap (λ j. slice_index (slice_set words (place w) v) (place j)) here.1
+      ∙ get_or-set_same words (place w) v 0 (within w h)
+      ∙ sym (get_or-set_same items w v 0 in_items)
+      ∙ ap (λ j. slice_index (slice_set items w v) j) (sym here.1)
   | inr other ↦
-    get_or-set_other words (place w) (place k) v 0 (λ e. other.1 (apart k w hk h e))
-    ∙ same k hk
-    ∙ sym (get_or-set_other items w k v 0 other.1)
+      get_or-set_other words (place w) (place k) v 0 (λ e. other.1 (apart k w hk h e))
+      ∙ same k hk
+      ∙ sym (get_or-set_other items w k v 0 other.1)
 ]
 
 pub sets_value : SetsValue
@@ -239,3 +239,7 @@ sets_base total value base layout values bases words w v placed h in_bases = rec
   values_stand = λ k hk. get_or-set_other words (base w) (value k) v 0 (layout.no_value_is_base k w hk h) ∙ placed.values_stand k hk;
   bases_stand = set_reads base total bases words layout.bases_apart (λ k hk. omega (arith, layout.base_within k hk, placed.room)) placed.bases_stand w v h in_bases;
 }
+
+pub ten_bytes : TenBytes
+unfolding placed_of placed
+ten_bytes = refl

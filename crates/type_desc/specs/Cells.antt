@@ -66,3 +66,7 @@ abbrev pub SetsBase : Type 0
 SetsBase = (total : ℕ) (value base : ℕ → ℕ) → IsLayout total value base
     → (values bases words : List ℕ) (w v : ℕ) → IsPlaced total value base values bases words → w < total → w < length bases
     → IsPlaced total value base values (slice_set bases w v) (slice_set words (base w) v)
+
+-- For one: a block of 10 bytes whose words are narrow, fat and narrow, with the values 1, 0x01020304 and 7, and no bases.
+abbrev pub TenBytes : Type 0
+TenBytes = placed_of (Narrow ∷ Fat ∷ []) 3 (1 ∷ 0x0102_0304 ∷ 7 ∷ []) (0 ∷ 0 ∷ 0 ∷ []) ≡ 1 ∷ 0 ∷ 0x0102_0304 ∷ 7 ∷ 0 ∷ 0 ∷ []

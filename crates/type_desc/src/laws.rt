@@ -4,7 +4,7 @@ ghost use Rattle.type_desc.specs.Descriptors.{OneSpelling, ReadsBack};
 ghost use Rattle.type_desc.specs.Shapes.{FindsAdded, KeepsOthers};
 ghost use Rattle.type_desc.specs.Periods.{OneLeastPeriod, LeastIsShape};
 ghost use Rattle.type_desc.specs.Places.{ShapesLayOut, PlaneLaysOut, NarrowPlaces, FatPlaces};
-ghost use Rattle.type_desc.specs.Cells.{PlacedSize, PlacesEach, PlacedOnce, ZerosPlaced, SetsValue, SetsBase};
+ghost use Rattle.type_desc.specs.Cells.{PlacedSize, PlacesEach, PlacedOnce, ZerosPlaced, SetsValue, SetsBase, TenBytes};
 
 /// The law of shapes. A list of kinds has one least period, which is a shape.
 pub fn shapes_are_least()
@@ -28,6 +28,7 @@ pub fn cells_are_placed()
     ensures each { PlacesEach }
     ensures once { PlacedOnce }
     ensures zeros { ZerosPlaced }
+    ensures ten_bytes { TenBytes }
 {}
 
 /// The law of writes to a cell. In any layout a word written at the place of a value or base is that value or base, and all
