@@ -8,7 +8,7 @@ use Rattle.std.proofs.lemmas.Grind.{same_number_lists}
 use Rattle.fsc_base.specs.declared.word.WordKind.{WordKind}
 use Rattle.fsc_base.specs.declared.word.WordKind.TheVariants.{Narrow}
 use Rattle.type_desc.specs.Places.{placed, kind_at, narrows_before, value_at, base_at}
-use Rattle.type_desc.specs.Cells.{IsPlaced, IsPlacedIn, front_of, back_of, fronts, backs, placed_of, PlacedSize, PlacesEach, PlacedOnce, ZerosPlaced, SetsValue, SetsBase, TenBytes}
+use Rattle.type_desc.specs.Cells.{IsPlacedIn, front_of, back_of, fronts, backs, placed_of, PlacedSize, PlacesEach, PlacedOnce, ZerosPlaced, SetsValue, SetsBase, TenBytes}
 use Rattle.type_desc.proofs.PlaceLaws.{front_end, FatAt, NarrowAt, cases_at, narrow_at, grown, fats_and_narrows, shape_layout}
 
 -- what a word adds
