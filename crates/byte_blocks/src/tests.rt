@@ -1,0 +1,1 @@
+//! Rows of the meaning of C, on the level of blocks.
