@@ -1,6 +1,6 @@
 //! How sizes are counted: in bytes of an access, words of a block, classes of cells, and virtual addresses.
 
-ghost use Rattle.std.specs.Prelude.{◌≡◌, ◌*◌, ◌^◌, ◌<◌};
+ghost use Rattle.std.specs.Prelude.{◌≡◌, ◌*◌, ◌^◌, ◌<◌, length, nat_le, position, IfSome};
 ghost use Rattle.c_memory.specs.Access.{bytes_of};
 ghost use Rattle.c_memory.specs.Blocks.{words_of};
 ghost use Rattle.c_memory.specs.Storage.{cell_bytes, class_of, span};
@@ -36,14 +36,21 @@ fn cell_bytes(size: u32) -> u64
     8 * u64::from(words_of(size))
 }
 
+/// The place of the first class that is at least so large.
+fn first_of_size(classes: &[u64], cell: u64) -> Option<usize>
+    ensures first { result ≡ position (λ class. nat_le cell class) classes.now }
+    ensures place { IfSome result (λ place. place < length classes.now) }
+{
+    classes.iter().position(|class| cell <= *class)
+}
+
 /// The class of a block of so many bytes, by its place among the classes: the first whose cells are large enough.
 #[tactic(auto, unfolding(c_memory::specs::Storage::class_of))]
 pub(crate) fn class_of(size: u32) -> usize
     ensures class { result ≡ class_of size }
     ensures place { result < 30 }
 {
-    let cell = cell_bytes(size);
-    CLASSES.iter().position(|class| cell <= *class).unwrap_or(0)
+    first_of_size(&CLASSES, cell_bytes(size)).unwrap_or(0)
 }
 
 /// The size in bytes of the cells of a class, by its place among the classes.

@@ -1,8 +1,8 @@
 //! What is counted beside the blocks.
 
-ghost use Rattle.std.specs.Prelude.{◌≡◌, ℕ, ◌+◌, ◌^◌, ◌<◌, ◌≤◌, ◌↔◌, [], ◌++◌, ◌∷◌, List, IsTrue, slice_index};
-ghost use Rattle.c_memory.specs.Blocks.{Block, ended, is_live_object};
-ghost use Rattle.c_memory.specs.Storage.{class_of, new_block};
+ghost use Rattle.std.specs.Prelude.{◌≡◌, ◌+◌, ◌-◌, ◌^◌, ◌<◌, ◌↔◌, List, [], ◌∷◌, ◌++◌, IsTrue, slice_index, slice_set};
+ghost use Rattle.c_memory.specs.Blocks.{Block};
+ghost use Rattle.c_memory.specs.Storage.{class_of, live_in, new_block, raised};
 ghost use Rattle.c_memory.specs.declared.kind.BlockKind.{BlockKind};
 ghost use Rattle.byte_blocks.specs.Counts.{Counts, IsWithinLimits};
 
@@ -40,7 +40,8 @@ impl Tally {
     pub fn with_block(self, size: u32) -> Tally
         requires few { slice_index self.live (class_of size) + 1 < 2 ^ 32 }
         requires limits { IsWithinLimits self }
-        ensures { (blocks : List Block) (kind : BlockKind) → Counts blocks self → Counts (blocks ++ new_block self.next_base size kind ∷ []) result }
+        ensures counts { (blocks : List Block) (kind : BlockKind) → Counts blocks self → Counts (blocks ++ new_block self.next_base size kind ∷ []) result }
+        ensures greatest { (blocks : List Block) → Counts blocks self → result.greatest ≡ raised self.greatest (class_of size) (live_in (class_of size) blocks + 1) }
     {
         let class = class_of(size);
         let mut tally = self;
@@ -57,6 +58,7 @@ impl Tally {
     /// Counts the end of a block of so many bytes.
     pub fn end_block(&mut self, size: u32)
         requires { 0 < slice_index self.old.live (class_of size) }
+        ensures { self.new ≡ record self.old { live = slice_set self.old.live (class_of size) (slice_index self.old.live (class_of size) - 1) } }
     {
         self.live[class_of(size)] -= 1;
     }
