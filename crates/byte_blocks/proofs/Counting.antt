@@ -159,3 +159,73 @@ pub raised-full : (greatest : List ℕ) (class live : ℕ) → get_or greatest c
 raised-full greatest class live h =
     let m : max (get_or greatest class 0) (live + 1) ≡ live + 1 = omega arith in
     ap (λ (n : ℕ). set greatest class n) m
+
+-- ---- a block is changed
+
+-- its size stays, and whether it is alive
+pub Counts-set : (blocks : List Block) (tally : Tally) (place : ℕ) (old new : Block) → place < length blocks → get_or blocks place old ≡ old
+    → new.size ≡ old.size → new.is_live ≡ old.is_live → Counts blocks tally → Counts (set blocks place new) tally
+unfolding stored_of next_base
+Counts-set blocks tally place old new h read size live counts = record {
+  live_is = λ class below.
+      let was = counts.live_is class below in
+      let change = live_in-set class blocks place new old h read in
+      let same : one_if (counts_for class new) ≡ one_if (counts_for class old) = rw (size, live) refl in
+      omega arith;
+  live_once = counts.live_once;
+  stored_is = counts.stored_is ∙ ap (λ (n : ℕ). 16 * n + bytes_of_cells tally.greatest 16) (sym (length-set blocks place new));
+  base_is =
+      let sums = sum_by-set (λ (x : Block). span x.size) blocks place new old h in
+      let was : span (get_or blocks place old).size ≡ span old.size = rw read refl in
+      let now : span new.size ≡ span old.size = rw size refl in
+      let base = counts.base_is in
+      omega arith;
+}
+
+-- its life ends
+pub Counts-ended : (blocks : List Block) (tally : Tally) (place : ℕ) (old : Block) → place < length blocks → get_or blocks place old ≡ old → old.is_live ≡ true
+    → length tally.live ≡ 30 → class_of old.size < 30 → Counts blocks tally
+    → Counts (set blocks place (ended old)) (record tally { live = set tally.live (class_of old.size) (get_or tally.live (class_of old.size) 0 - 1) })
+unfolding stored_of next_base
+Counts-ended blocks tally place old h read alive len in_range counts =
+    let class = class_of old.size in
+    let live = set tally.live class (get_or tally.live class 0 - 1) in
+    let here : get_or live class 0 ≡ get_or tally.live class 0 - 1 = get_or-set_same tally.live class (get_or tally.live class 0 - 1) 0 (omega arith) in
+    record {
+      live_is = λ other below.
+          let was = counts.live_is other below in
+          let change = live_in-set other blocks place (ended old) old h read in
+          let one : one_if (counts_for other old) ≡ one_if (eqb (class_of old.size) other) = rw alive refl in
+          elim (cases_eq other class) [
+            | inl same ↦
+                let by : one_if (eqb (class_of old.size) other) ≡ 1 = same_class other old.size same in
+                let there : get_or live other 0 ≡ get_or tally.live other 0 - 1 = rw same here in
+                omega arith
+            | inr ne ↦
+                let by : one_if (eqb (class_of old.size) other) ≡ 0 = other_class class other old.size refl ne in
+                let there : get_or live other 0 ≡ get_or tally.live other 0 = get_or-set_other tally.live class other (get_or tally.live class 0 - 1) 0 ne in
+                omega arith
+          ];
+      live_once = λ other below.
+          let was = counts.live_once other below in
+          elim (cases_eq other class) [
+            | inl same ↦ let there : get_or live other 0 ≡ get_or tally.live other 0 - 1 = rw same here in omega arith
+            | inr ne ↦ rw (get_or-set_other tally.live class other (get_or tally.live class 0 - 1) 0 ne) was
+          ];
+      stored_is = counts.stored_is ∙ ap (λ (n : ℕ). 16 * n + bytes_of_cells tally.greatest 16) (sym (length-set blocks place (ended old)));
+      base_is =
+          let sums = sum_by-set (λ (x : Block). span x.size) blocks place (ended old) old h in
+          let was : span (get_or blocks place old).size ≡ span old.size = rw read refl in
+          let base = counts.base_is in
+          omega arith;
+    }
+
+-- a live block counts
+pub live_above : (blocks : List Block) (tally : Tally) (place : ℕ) (old : Block) → place < length blocks → get_or blocks place old ≡ old → old.is_live ≡ true
+    → class_of old.size < 30 → Counts blocks tally → 0 < get_or tally.live (class_of old.size) 0
+live_above blocks tally place old h read alive in_range counts =
+    let was = counts.live_is (class_of old.size) in_range in
+    let change = live_in-set (class_of old.size) blocks place (ended old) old h read in
+    let one : one_if (counts_for (class_of old.size) old) ≡ one_if (eqb (class_of old.size) (class_of old.size)) = rw alive refl in
+    let by = same_class (class_of old.size) old.size refl in
+    omega arith

@@ -1,11 +1,11 @@
 -- Blocks by their numbers.
-use Rattle.std.proofs.Common.{◌≡◌, ℕ, zero, suc, ◌+◌, ◌-◌, ◌<◌, ◌≤◌, Option, Some, None, List, [], ◌∷◌, length, get_or, refl, sym, ap, ◌∙◌, arith, true, false}
+use Rattle.std.proofs.Common.{◌⊎◌, inl, inr, ◌≡◌, ℕ, zero, suc, ◌+◌, ◌-◌, ◌<◌, ◌≤◌, Option, Some, None, List, [], ◌∷◌, length, get_or, refl, sym, ap, ◌∙◌, arith, true, false}
 use Rattle.std.specs.List.{slice_get}
 use Rattle.std.proofs.Math.ListN.{set}
 use Rattle.std.proofs.lemmas.Option.{slice_get-get_or, slice_get_read, slice_get_within, get_or_from_slice_get, slice_get_past}
-use Rattle.std.proofs.lemmas.List.{set-get_or}
-use Rattle.c_memory.specs.Blocks.{Block, Heap, block_at, block_in, with_block, is_live_object}
-use Rattle.byte_blocks.specs.Asking.{lives, lives_in, is_made}
+use Rattle.std.proofs.lemmas.Bool.{and_parts}
+use Rattle.c_memory.specs.Blocks.{Block, Heap, block_at, block_in, with_block, changed_at, is_live_object, is_object}
+use Rattle.byte_blocks.specs.Asking.{lives, lives_in}
 
 pub block_in-slice_get : (blocks : List Block) (place : ℕ) → block_in blocks place ≡ slice_get blocks place
 block_in-slice_get [] place = refl
@@ -40,3 +40,39 @@ stands heap (suc place) block e =
       within = rw same inside;
       is_there = λ other. rw same (get_or_from_slice_get heap.blocks place block other found);
     }
+
+pub block_at-past : (heap : Heap) (number : ℕ) → (number ≡ 0) ⊎ (length heap.blocks < number) → block_at heap number ≡ None
+block_at-past heap zero h = refl
+block_at-past heap (suc place) h =
+    let past : length heap.blocks ≤ place = elim h [ inl none ↦ omega arith | inr above ↦ omega arith ] in
+    block_in-slice_get heap.blocks place ∙ slice_get_past heap.blocks place past
+
+-- ---- a block is changed
+
+-- a live object that has a number
+pub record LivesThere (heap : Heap) (number : ℕ) : Type 0 where
+  pub block : Block
+  pub stands_there : Stands heap number block
+  pub found : block_at heap number ≡ Some block
+  pub is_live : block.is_live ≡ true
+
+live_one : (heap : Heap) (number : ℕ) (found : Option Block) → block_at heap number ≡ found → lives_in found ≡ true → LivesThere heap number
+live_one heap number None e h = cc
+live_one heap number (Some block) e h = record {
+  block = block;
+  stands_there = stands heap number block e;
+  found = e;
+  is_live = (and_parts (is_object block.kind) block.is_live h).1;
+}
+
+pub lives_there : (heap : Heap) (number : ℕ) → lives heap number ≡ true → LivesThere heap number
+lives_there heap number h = live_one heap number (block_at heap number) refl h
+
+-- what a read of its place gives
+pub read_there : (heap : Heap) (number : ℕ) (block read : Block) → Stands heap number block → read ≡ get_or heap.blocks (number - 1) read → read ≡ block
+read_there heap number block read there h = h ∙ there.is_there read
+
+-- what a write of its place leaves
+pub changed_there : (heap : Heap) (number : ℕ) (block new : Block) (change : Block → Block) → block_at heap number ≡ Some block → new ≡ change block
+    → with_block heap number new ≡ changed_at heap number change (block_at heap number)
+changed_there heap number block new change found h = rw (found, h) refl

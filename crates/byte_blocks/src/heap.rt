@@ -99,7 +99,7 @@ impl Heap {
         requires { IsTrue (is_made self.now block) }
         ensures { IfSome (block_at self.now block) (λ made. result ≡ made.size) }
     {
-        self.blocks[block as usize - 1].size()
+        self.made(block).size()
     }
 
     /// The virtual base of a block that was made.
@@ -107,7 +107,7 @@ impl Heap {
         requires { IsTrue (is_made self.now block) }
         ensures { IfSome (block_at self.now block) (λ made. result ≡ made.base) }
     {
-        self.blocks[block as usize - 1].base()
+        self.made(block).base()
     }
 
     /// What an access of this width reads: its bytes, the lowest first, and a base where it is a whole word at a multiple
@@ -194,10 +194,23 @@ impl Heap {
     fn find(&self, number: u32) -> Option<&Block>
         ensures { MatchOption result (block_at self.now number ≡ None) (λ block. block_at self.now number ≡ Some block.now) }
     {
-        if number == 0 {
-            return None;
+        let number = number as usize;
+        if 1 <= number && number <= self.blocks.len() {
+            Some(&self.blocks[number - 1])
+        } else {
+            None
         }
-        self.blocks.get(number as usize - 1)
+    }
+
+    /// The block with a number, which was made.
+    fn made(&self, number: u32) -> &Block
+        requires { IsTrue (is_made self.now number) }
+        ensures { block_at self.now number ≡ Some result.now }
+    {
+        match self.find(number) {
+            Some(block) => block,
+            None => unreachable!(),
+        }
     }
 
     /// The object that `n` bytes from a word on are within.

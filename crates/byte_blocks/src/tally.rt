@@ -1,6 +1,6 @@
 //! What is counted beside the blocks.
 
-ghost use Rattle.std.specs.Prelude.{◌≡◌, ◌+◌, ◌-◌, ◌^◌, ◌<◌, ◌↔◌, List, [], ◌∷◌, ◌++◌, IsTrue, slice_index, slice_set};
+ghost use Rattle.std.specs.Prelude.{◌≡◌, ◌+◌, ◌-◌, ◌^◌, ◌<◌, ◌↔◌, List, [], ◌∷◌, ◌++◌, IsTrue, replicate, slice_index, slice_set};
 ghost use Rattle.c_memory.specs.Blocks.{Block};
 ghost use Rattle.c_memory.specs.Storage.{class_of, live_in, new_block, raised};
 ghost use Rattle.c_memory.specs.declared.kind.BlockKind.{BlockKind};
@@ -26,6 +26,7 @@ impl Tally {
     /// The counts where there is no block.
     pub fn new() -> Tally
         ensures counts { Counts [] result }
+        ensures greatest { result.greatest ≡ replicate 30 0 }
         ensures limits { IsWithinLimits result }
     {
         Tally {
