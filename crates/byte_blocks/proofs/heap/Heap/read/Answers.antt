@@ -1,4 +1,9 @@
+use Rattle.std.proofs.Common.{◌∙◌, ap, ℕ, ◌≡◌, true}
+use Rattle.c_memory.specs.Access.{is_within}
+use Rattle.byte_blocks.proofs.Accesses.{around}
 use Rattle.byte_blocks.proofs.heap.Heap.read.Goals as goal
 
 pub word-requires-clause-within : goal.word-requires-clause-within
-word-requires-clause-within c = ?
+word-requires-clause-within c =
+    let there = around c.args.self.now c.args.at c.bytes_of-n.result c.in-Some.block.now c.in-Some.ensures in
+    rw c.distance.ensures there.fits
