@@ -121,9 +121,11 @@ impl Block {
 
     /// Whether it is a live object that has `n` bytes from an offset on.
     pub fn is_within(&self, offset: u32, n: u32) -> bool
-        ensures { result ≡ is_within self.now offset n }
+        ensures within { result ≡ is_within self.now offset n }
+        ensures reach { result ≡ true → offset + n < 2 ^ 32 }
     {
-        self.is_object() && self.is_live && u64::from(offset) + u64::from(n) <= u64::from(self.size)
+        let size = self.size;
+        self.is_object() && self.is_live && u64::from(offset) + u64::from(n) <= u64::from(size)
     }
 
     /// The base of its word at an offset, where `n` bytes from there are that word whole; else 0.
@@ -166,6 +168,7 @@ impl Block {
         requires within { is_within self.now stretch.from stretch.n ≡ true }
         requires target { stretch.to + stretch.n < 2 ^ 32 }
         ensures bytes { IfOk result (λ piece. piece.bytes.items ≡ take stretch.n (drop stretch.from self.now.bytes)) }
+        ensures length { IfOk result (λ piece. length piece.bytes.items ≡ stretch.n) }
         ensures bases { IfOk result (λ piece. piece.bases.items ≡ copied_bases (touched stretch.to stretch.n) self.now.bases stretch.to stretch.from stretch.n (stretch.to / 4)) }
     {
         let bytes = self.part(stretch.from, stretch.n);

@@ -1,7 +1,7 @@
 //! All blocks that were ever made.
 
-ghost use Rattle.std.specs.Prelude.{◌≡◌, ◌^◌, ◌<◌, Some, None, IfSome, IsTrue, MatchOption};
-ghost use Rattle.c_memory.specs.Access.{offset_of, read_of, refused, within, write_of};
+ghost use Rattle.std.specs.Prelude.{◌≡◌, ◌+◌, ◌^◌, ◌<◌, Some, None, IfSome, IsTrue, MatchOption};
+ghost use Rattle.c_memory.specs.Access.{distance, read_of, refused, within, write_of};
 ghost use Rattle.c_memory.specs.Blocks.{block_at, killed, sealed_at};
 ghost use Rattle.c_memory.specs.Copying.{copy_of};
 ghost use Rattle.c_memory.specs.Storage.{next_base, no_blocks, stored_of};
@@ -216,7 +216,8 @@ impl Heap {
     /// The object that `n` bytes from a word on are within.
     #[tactic(auto, unfolding(c_memory::specs::Access::within))]
     fn within(&self, at: Word, n: u32) -> Option<&Block>
-        ensures { MatchOption result (within self.now at n ≡ None) (λ block. within self.now at n ≡ Some block.now) }
+        ensures block { MatchOption result (within self.now at n ≡ None) (λ block. within self.now at n ≡ Some block.now) }
+        ensures reach { IfSome result (λ block. distance at.value block.now.base + n < 2 ^ 32) }
     {
         let block = self.find(at.block)?;
         if block.is_within(block.distance(at.value), n) {

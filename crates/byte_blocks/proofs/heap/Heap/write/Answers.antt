@@ -9,20 +9,20 @@ use Rattle.byte_blocks.proofs.heap.Heap.write.Goals as goal
 
 pub overflow_sub-at : goal.overflow_sub-at
 overflow_sub-at c =
-    let there = around c.args.self.now c.args.at c.bytes_of-n.result c.in-Some.block.now c.in-Some.ensures in
+    let there = around c.args.self.now c.args.at c.bytes_of-n.result c.in-Some.block.now c.in-Some.ensures.block in
     (stands c.args.self.now c.args.at.block c.in-Some.block.now there.found).above
 
 pub index_mut-requires : goal.index_mut-requires
 index_mut-requires c =
     let heap = heap_of c.self.inside.blocks.items c.self.inside.tally in
-    let found = subst (λ (h : Heap). within h c.args.at c.bytes_of-n.result ≡ Some c.in-Some.block.now) (sym c.self.view_is) c.in-Some.ensures in
+    let found = subst (λ (h : Heap). within h c.args.at c.bytes_of-n.result ≡ Some c.in-Some.block.now) (sym c.self.view_is) c.in-Some.ensures.block in
     let there = around heap c.args.at c.bytes_of-n.result c.in-Some.block.now found in
     omega (arith, (stands heap c.args.at.block c.in-Some.block.now there.found).within)
 
 pub put_word-requires-clause-within : goal.put_word-requires-clause-within
 put_word-requires-clause-within c =
     let heap = heap_of c.self.inside.blocks.items c.self.inside.tally in
-    let found = subst (λ (h : Heap). within h c.args.at c.bytes_of-n.result ≡ Some c.in-Some.block.now) (sym c.self.view_is) c.in-Some.ensures in
+    let found = subst (λ (h : Heap). within h c.args.at c.bytes_of-n.result ≡ Some c.in-Some.block.now) (sym c.self.view_is) c.in-Some.ensures.block in
     let there = around heap c.args.at c.bytes_of-n.result c.in-Some.block.now found in
     let stand = stands heap c.args.at.block c.in-Some.block.now there.found in
     let read = read_there heap c.args.at.block c.in-Some.block.now c.index_mut.result.now stand c.index_mut.ensures.value in
@@ -31,7 +31,7 @@ put_word-requires-clause-within c =
 pub invariant_of-self : goal.invariant_of-self
 invariant_of-self c =
     let heap = heap_of c.self.inside.blocks.items c.self.inside.tally in
-    let found = subst (λ (h : Heap). within h c.args.at c.bytes_of-n.result ≡ Some c.in-Some.block.now) (sym c.self.view_is) c.in-Some.ensures in
+    let found = subst (λ (h : Heap). within h c.args.at c.bytes_of-n.result ≡ Some c.in-Some.block.now) (sym c.self.view_is) c.in-Some.ensures.block in
     let there = around heap c.args.at c.bytes_of-n.result c.in-Some.block.now found in
     let stand = stands heap c.args.at.block c.in-Some.block.now there.found in
     let read = read_there heap c.args.at.block c.in-Some.block.now c.index_mut.result.now stand c.index_mut.ensures.value in
@@ -48,7 +48,7 @@ pub returns : goal.returns
 unfolding write_of
 returns c =
     let heap = heap_of c.self.inside.blocks.items c.self.inside.tally in
-    let found = subst (λ (h : Heap). within h c.args.at c.bytes_of-n.result ≡ Some c.in-Some.block.now) (sym c.self.view_is) c.in-Some.ensures in
+    let found = subst (λ (h : Heap). within h c.args.at c.bytes_of-n.result ≡ Some c.in-Some.block.now) (sym c.self.view_is) c.in-Some.ensures.block in
     let there = around heap c.args.at c.bytes_of-n.result c.in-Some.block.now found in
     let stand = stands heap c.args.at.block c.in-Some.block.now there.found in
     let read = read_there heap c.args.at.block c.in-Some.block.now c.index_mut.result.now stand c.index_mut.ensures.value in
