@@ -1,14 +1,13 @@
 -- How the counts go with the blocks.
-use Rattle.std.proofs.Common.{eq-eqb, ne_eqb, ◌≡◌, ℕ, zero, suc, ◌+◌, ◌-◌, ◌*◌, ◌^◌, ◌<◌, ◌≤◌, ◌⊎◌, inl, inr, List, [], ◌∷◌, ◌++◌, Bool, ◌&&◌, cond, eqb, length, get_or, replicate, max, refl, sym, ap, ◌∙◌, arith, true, false}
+use Rattle.std.proofs.Common.{eq-eqb, ne_eqb, ◌≡◌, ℕ, ◌+◌, ◌-◌, ◌*◌, ◌^◌, ◌<◌, ◌≤◌, inl, inr, List, [], ◌∷◌, ◌++◌, Bool, ◌&&◌, cond, eqb, length, get_or, replicate, max, refl, sym, ap, ◌∙◌, arith, true, false}
 use Rattle.std.proofs.Math.ListN.{set}
-use Rattle.std.specs.List.{count_by, sum_by}
 use Rattle.std.proofs.lemmas.List.{get_or-replicate, length_push, length-set, get_or-set_same, get_or-set_other, set-get_or}
 use Rattle.std.proofs.lemmas.List.Sums.{count_by-le-length, sum_by_push, sum_by-set}
 use Rattle.std.proofs.lemmas.Bool.{cases_eq}
-use Rattle.c_memory.specs.Blocks.{Block, Heap, ended}
+use Rattle.c_memory.specs.Blocks.{Block, ended}
 use Rattle.c_memory.specs.Storage.{bytes_of_cells, class_of, live_in, new_block, next_base, raised, span, stored_of}
 use Rattle.c_memory.specs.declared.kind.BlockKind.{BlockKind}
-use Rattle.byte_blocks.specs.Counts.{Counts, IsWithinLimits, heap_of}
+use Rattle.byte_blocks.specs.Counts.{Counts}
 use Rattle.byte_blocks.specs.declared.tally.Tally.{Tally}
 use Rattle.byte_blocks.proofs.Classes.{bytes_of_cells-one_more}
 
@@ -96,11 +95,11 @@ base_push blocks block greatest new base h = let l = sum_by_push (λ (x : Block)
 pub Counts-free : (blocks : List Block) (tally : Tally) (kind : BlockKind) (size class : ℕ) → length tally.live ≡ 30 → class < 30 → class ≡ class_of size
     → get_or tally.live class 0 < get_or tally.greatest class 0 → Counts blocks tally
     → Counts (blocks ++ new_block tally.next_base size kind ∷ []) (record {
-        greatest = tally.greatest;
-        live = set tally.live class (get_or tally.live class 0 + 1);
-        stored = tally.stored + 16;
-        next_base = tally.next_base + span size;
-      })
+      greatest = tally.greatest;
+      live = set tally.live class (get_or tally.live class 0 + 1);
+      stored = tally.stored + 16;
+      next_base = tally.next_base + span size;
+    })
 Counts-free blocks tally kind size class len h e free counts = record {
   live_is = LiveIs_push tally.live blocks (new_block tally.next_base size kind) class len h e refl counts.live_is;
   live_once = λ other below.
@@ -121,11 +120,11 @@ Counts-free blocks tally kind size class len h e free counts = record {
 pub Counts-full : (blocks : List Block) (tally : Tally) (kind : BlockKind) (size class : ℕ) → length tally.live ≡ 30 → length tally.greatest ≡ 30 → class < 30
     → class ≡ class_of size → get_or tally.greatest class 0 ≤ get_or tally.live class 0 → Counts blocks tally
     → Counts (blocks ++ new_block tally.next_base size kind ∷ []) (record {
-        greatest = set tally.greatest class (get_or tally.live class 0 + 1);
-        live = set tally.live class (get_or tally.live class 0 + 1);
-        stored = tally.stored + 16 * 2 ^ class + 16;
-        next_base = tally.next_base + span size;
-      })
+      greatest = set tally.greatest class (get_or tally.live class 0 + 1);
+      live = set tally.live class (get_or tally.live class 0 + 1);
+      stored = tally.stored + 16 * 2 ^ class + 16;
+      next_base = tally.next_base + span size;
+    })
 Counts-full blocks tally kind size class len glen h e full counts =
     let once = counts.live_once class h in
     let most : get_or tally.live class 0 ≡ get_or tally.greatest class 0 = omega arith in

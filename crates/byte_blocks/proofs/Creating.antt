@@ -1,7 +1,7 @@
 -- What a creation leaves, and whether it fits, by the counts.
-use Rattle.std.proofs.Common.{◌≡◌, ℕ, ◌+◌, ◌-◌, ◌*◌, ◌^◌, ◌<◌, ◌≤◌, List, [], ◌∷◌, ◌++◌, length, get_or, refl, sym, ap, ◌∙◌, subst, arith}
-use Rattle.c_memory.specs.Blocks.{Block, Heap}
-use Rattle.c_memory.specs.Storage.{bytes_of_cells, class_of, created, live_in, new_block, next_base, raised, stored_of, Fits}
+use Rattle.std.proofs.Common.{◌≡◌, ℕ, ◌+◌, ◌-◌, ◌^◌, ◌<◌, ◌≤◌, List, [], ◌∷◌, ◌++◌, length, get_or, refl, sym, ap, ◌∙◌, subst, arith}
+use Rattle.c_memory.specs.Blocks.{Block}
+use Rattle.c_memory.specs.Storage.{class_of, created, live_in, new_block, next_base, raised, stored_of, Fits}
 use Rattle.c_memory.specs.declared.kind.BlockKind.{BlockKind}
 use Rattle.byte_blocks.specs.Counts.{Counts, IsWithinLimits, heap_of}
 use Rattle.byte_blocks.specs.declared.tally.Tally.{Tally}

@@ -1,7 +1,4 @@
-mod Accesses
-mod Bases
 mod Classes
 mod Counting
 mod Creating
-mod LowBytes
-mod Places
+pub mod Living

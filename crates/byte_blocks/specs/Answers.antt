@@ -1,5 +1,5 @@
 -- What the calls that change a heap answer and leave, by cases on the answer.
-use Rattle.std.specs.Prelude.{◌≡◌, ℕ, ◌+◌, length, Result, Ok, Err}
+use Rattle.std.specs.Prelude.{◌≡◌, ℕ, length, Result, Ok, Err}
 use Rattle.c_memory.specs.declared.access.CopyNo.{CopyNo}
 use Rattle.c_memory.specs.declared.access.CopyNo.TheVariants as no
 use Rattle.c_memory.specs.declared.access.WriteNo.{WriteNo}

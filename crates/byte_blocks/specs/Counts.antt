@@ -1,5 +1,5 @@
 -- What the counts beside the blocks say. A class is known by its place among the classes.
-use Rattle.std.specs.Prelude.{◌≡◌, ℕ, ◌+◌, ◌-◌, ◌*◌, ◌^◌, ◌<◌, ◌≤◌, List, slice_index}
+use Rattle.std.specs.Prelude.{◌≡◌, ℕ, ◌-◌, ◌^◌, ◌<◌, ◌≤◌, List, slice_index}
 use Rattle.c_memory.specs.Blocks.{Block, Heap}
 use Rattle.c_memory.specs.Storage.{live_in, next_base, stored_of}
 use Rattle.byte_blocks.specs.declared.tally.Tally.{Tally}

@@ -1,6 +1,6 @@
 //! One block.
 
-ghost use Rattle.std.specs.Prelude.{◌≡◌, ◌+◌, ◌*◌, ◌/◌, ◌^◌, ◌<◌, ◌≤◌, length, take, drop, true, IfOk, IsTrue};
+ghost use Rattle.std.specs.Prelude.{◌≡◌, ◌+◌, ◌*◌, ◌/◌, ◌^◌, ◌<◌, ◌≤◌, length, take, drop, replicate, true, IfOk, IsTrue};
 ghost use Rattle.c_memory.specs.Access.{base_in, distance, is_within, touched, with_base, with_bytes, with_word, word_in};
 ghost use Rattle.c_memory.specs.Blocks.{ended, is_live_object, is_object, sealed, words_of};
 ghost use Rattle.c_memory.specs.Bytes.{little_endian, overwritten};
@@ -184,6 +184,17 @@ impl Block {
         let start = offset as usize;
         self.bytes.as_mut_slice()[start..start + n].copy_from_slice(bytes);
         let end = words_of(offset + n as u32) as usize;
+        self.bases.as_mut_slice()[start / 4..end].fill(0);
+    }
+
+    /// Puts zero bytes at an offset. Each word that they touch loses its base.
+    pub fn put_zeros(&mut self, offset: u32, n: u32)
+        requires { is_within self.old offset n ≡ true }
+        ensures { self.new ≡ with_bytes self.old offset (replicate n 0) }
+    {
+        let start = offset as usize;
+        self.bytes.as_mut_slice()[start..start + n as usize].fill(0);
+        let end = words_of(offset + n) as usize;
         self.bases.as_mut_slice()[start / 4..end].fill(0);
     }
 

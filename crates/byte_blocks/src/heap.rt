@@ -1,7 +1,7 @@
 //! All blocks that were ever made.
 
 ghost use Rattle.std.specs.Prelude.{◌≡◌, ◌+◌, ◌^◌, ◌<◌, Some, None, IfSome, IsTrue, MatchOption};
-ghost use Rattle.c_memory.specs.Access.{distance, read_of, refused, within, write_of};
+ghost use Rattle.c_memory.specs.Access.{clear_of, distance, read_of, refused, within, write_of};
 ghost use Rattle.c_memory.specs.Blocks.{block_at, killed, sealed_at};
 ghost use Rattle.c_memory.specs.Copying.{copy_of};
 ghost use Rattle.c_memory.specs.Storage.{next_base, no_blocks, stored_of};
@@ -140,6 +140,24 @@ impl Heap {
         }
         let offset = block.distance(at.value);
         self.blocks[at.block as usize - 1].put_word(offset, n, what);
+        Ok(())
+    }
+
+    /// Clears `n` bytes, more than none: they are zero, and each word that they touch loses its base. Refused as a write of
+    /// so many bytes is. It takes no memory, and a number of steps that grows as `n` does.
+    #[tactic(auto, unfolding(c_memory::specs::Access::clear_of))]
+    pub fn clear(&mut self, at: Word, n: u32) -> Result<(), WriteNo>
+        requires { 0 < n }
+        ensures { Writes (clear_of self.old at n) self.old self.new result }
+    {
+        let Some(block) = self.within(at, n) else {
+            return Err(WriteNo::Outside(self.refused(at, n)));
+        };
+        if block.is_sealed() {
+            return Err(WriteNo::ReadOnly(self.refused(at, n)));
+        }
+        let offset = block.distance(at.value);
+        self.blocks[at.block as usize - 1].put_zeros(offset, n);
         Ok(())
     }
 

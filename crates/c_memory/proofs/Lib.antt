@@ -1,1 +1,5 @@
+pub mod Accesses
+pub mod CopiedBases
+pub mod LowBytes
 pub mod Overwriting
+pub mod Places

@@ -1,4 +1,4 @@
-use Rattle.std.proofs.Common.{◌+◌, ◌≤◌, leb-true, arith}
+use Rattle.std.proofs.Common.{◌+◌, leb-true, arith}
 use Rattle.byte_blocks.proofs.block.Block.is_within.Goals as goal
 
 pub returns-then-self-clause-reach : goal.returns-then-self-clause-reach

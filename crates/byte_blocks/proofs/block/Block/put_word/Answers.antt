@@ -1,6 +1,5 @@
-use Rattle.std.proofs.Common.{inl, inr, ◌∙◌, arith, take, List, ℕ}
-use Rattle.c_memory.specs.Access.{with_bytes}
-use Rattle.byte_blocks.proofs.LowBytes.{take-bytes, with_word-no_base}
+use Rattle.std.proofs.Common.{inl, inr}
+use Rattle.c_memory.proofs.LowBytes.{take-bytes, with_word-no_base}
 use Rattle.byte_blocks.proofs.block.Block.put_word.Goals as goal
 use Rattle.byte_blocks.proofs.block.Block.put_word.Goals.{else-n-eq4-via-then-n-eq4+else-offset-eq0, else-n-eq4-via-else-n-eq4}
 

@@ -1,13 +1,13 @@
-use Rattle.std.proofs.Common.{◌≡◌, ℕ, ◌+◌, ◌-◌, ◌/◌, Some, List, length, take, drop, ne_eqb, sym, subst, ap, ◌∙◌, arith}
+use Rattle.std.proofs.Common.{◌≡◌, ℕ, ◌-◌, ◌/◌, Some, List, take, drop, ne_eqb, sym, subst, ap, ◌∙◌, arith}
 use Rattle.c_memory.specs.Access.{distance, touched, within}
 use Rattle.c_memory.specs.Blocks.{Block, Heap}
 use Rattle.c_memory.specs.Bytes.{overwritten}
-use Rattle.c_memory.specs.Copying.{copied_bases, copy_of, with_copy}
+use Rattle.c_memory.specs.Copying.{copy_of, with_copy}
 use Rattle.byte_blocks.specs.Counts.{heap_of}
-use Rattle.byte_blocks.proofs.Accesses.{Around, around, copied_there}
-use Rattle.byte_blocks.proofs.Bases.{length-copied_bases}
+use Rattle.c_memory.proofs.Accesses.{around, copied_there}
+use Rattle.c_memory.proofs.CopiedBases.{length-copied_bases}
 use Rattle.byte_blocks.proofs.Counting.{Counts-set}
-use Rattle.byte_blocks.proofs.Places.{Stands, stands, read_there}
+use Rattle.c_memory.proofs.Places.{stands, read_there}
 use Rattle.byte_blocks.proofs.heap.Heap.copy.Goals as goal
 
 pub piece-requires-clause-within : goal.piece-requires-clause-within
@@ -50,13 +50,12 @@ invariant_of-self c =
     let found = subst (λ (h : Heap). within h c.args.to c.args.n ≡ Some c.in-Some-within.target.now) (sym c.self.view_is) c.in-Some-within.ensures.block in
     let there = around heap c.args.to c.args.n c.in-Some-within.target.now found in
     let stand = stands heap c.args.to.block c.in-Some-within.target.now there.found in
-    let read = read_there heap c.args.to.block c.in-Some-within.target.now c.index_mut.result.now stand c.index_mut.ensures.value in
-    (
+    let read = read_there heap c.args.to.block c.in-Some-within.target.now c.index_mut.result.now stand c.index_mut.ensures.value in (
       Counts-set heap.blocks c.self.inside.tally (c.args.to.block - 1) c.in-Some-within.target.now c.put_piece.new.self stand.within (stand.is_there c.in-Some-within.target.now)
-      (ap (λ (b : Block). b.size) c.put_piece.ensures ∙ ap (λ (b : Block). b.size) read)
-      (ap (λ (b : Block). b.is_live) c.put_piece.ensures ∙ ap (λ (b : Block). b.is_live) read)
-      c.self.invariant.0,
-      c.self.invariant.1
+          (ap (λ (b : Block). b.size) c.put_piece.ensures ∙ ap (λ (b : Block). b.size) read)
+          (ap (λ (b : Block). b.is_live) c.put_piece.ensures ∙ ap (λ (b : Block). b.is_live) read)
+          c.self.invariant.0,
+      c.self.invariant.1,
     )
 
 pub returns : goal.returns
@@ -71,12 +70,12 @@ returns c =
     let stand = stands heap c.args.to.block target there.found in
     let read = read_there heap c.args.to.block target c.index_mut.result.now stand c.index_mut.ensures.value in
     let changed : c.put_piece.new.self ≡ with_copy target source c.distance.result c.distance-2.result c.args.n =
-        c.put_piece.ensures
-        ∙ ap (λ (b : Block). record b { bytes = overwritten b.bytes c.distance.result c.in_ok-piece.piece.bytes.items; bases = overwritten b.bases (c.distance.result / 4) c.in_ok-piece.piece.bases.items }) read
-        ∙ ap (λ (l : List ℕ). record target { bytes = overwritten target.bytes c.distance.result l; bases = overwritten target.bases (c.distance.result / 4) c.in_ok-piece.piece.bases.items }) c.in_ok-piece.ensures.bytes
-        ∙ ap (λ (l : List ℕ). record target { bytes = overwritten target.bytes c.distance.result (take c.args.n (drop c.distance-2.result source.bytes)); bases = overwritten target.bases (c.distance.result / 4) l }) c.in_ok-piece.ensures.bases in
+    c.put_piece.ensures
+    ∙ ap (λ (b : Block). record b { bytes = overwritten b.bytes c.distance.result c.in_ok-piece.piece.bytes.items; bases = overwritten b.bases (c.distance.result / 4) c.in_ok-piece.piece.bases.items }) read
+    ∙ ap (λ (l : List ℕ). record target { bytes = overwritten target.bytes c.distance.result l; bases = overwritten target.bases (c.distance.result / 4) c.in_ok-piece.piece.bases.items }) c.in_ok-piece.ensures.bytes
+    ∙ ap (λ (l : List ℕ). record target { bytes = overwritten target.bytes c.distance.result (take c.args.n (drop c.distance-2.result source.bytes)); bases = overwritten target.bases (c.distance.result / 4) l }) c.in_ok-piece.ensures.bases in
     let placed = changed
-        ∙ ap (λ (o : ℕ). with_copy target source o c.distance-2.result c.args.n) c.distance.ensures
-        ∙ ap (λ (o : ℕ). with_copy target source (distance c.args.to.value target.base) o c.args.n) c.distance-2.ensures in
+    ∙ ap (λ (o : ℕ). with_copy target source o c.distance-2.result c.args.n) c.distance.ensures
+    ∙ ap (λ (o : ℕ). with_copy target source (distance c.args.to.value target.base) o c.args.n) c.distance-2.ensures in
     rw (← c.self.view_is, ne_eqb c.args.n 0 c.if-n-eq0.false)
     (copied_there heap c.args.to c.args.from c.args.n source target c.put_piece.new.self from_there to_there (sym c.if-is_sealed.ensures) placed)

@@ -1,9 +1,8 @@
-use Rattle.std.proofs.Common.{◌≡◌, ◌+◌, ◌++◌, ◌∷◌, [], List, length, true, false, sym, subst, ap, refl, ◌∙◌, arith}
+use Rattle.std.proofs.Common.{◌≡◌, ◌++◌, ◌∷◌, [], List, length, sym, subst, ap, refl, ◌∙◌, arith}
 use Rattle.std.proofs.lemmas.Bool.{both_ways}
 use Rattle.std.proofs.lemmas.List.{length_push}
 use Rattle.c_memory.specs.Blocks.{Block, Heap}
-use Rattle.c_memory.specs.Storage.{Fits, created, class_of, new_block}
-use Rattle.byte_blocks.specs.Counts.{Counts, heap_of}
+use Rattle.c_memory.specs.Storage.{Fits, class_of, new_block}
 use Rattle.byte_blocks.proofs.Classes.{class_of-lt}
 use Rattle.byte_blocks.proofs.Creating.{IsNext, few_blocks, few_live, fits, limits, next_is}
 use Rattle.byte_blocks.proofs.heap.Heap.create.Goals as goal
@@ -20,12 +19,11 @@ returns-then-not-is_within_limits c =
       now_counts = c.self.invariant.0;
       then_counts = c.with_block-tally.ensures.counts blocks c.args.kind c.self.invariant.0;
       then_greatest = c.with_block-tally.ensures.greatest blocks c.self.invariant.0;
-    } in
-    (
+    } in (
       (λ fit.
-      let there = subst (λ (h : Heap). Fits h c.args.size c.args.kind) (sym c.self.view_is) fit in
-      both_ways c.is_within_limits.result c.if-not-is_within_limits.true (c.is_within_limits.ensures.1 (limits blocks tally c.with_block-tally.result c.args.size c.args.kind next there))),
-      refl
+          let there = subst (λ (h : Heap). Fits h c.args.size c.args.kind) (sym c.self.view_is) fit in
+          both_ways c.is_within_limits.result c.if-not-is_within_limits.true (c.is_within_limits.ensures.1 (limits blocks tally c.with_block-tally.result c.args.size c.args.kind next there))),
+      refl,
     )
 
 pub overflow_cast-result : goal.overflow_cast-result
@@ -46,9 +44,8 @@ returns c =
     } in
     let within = c.is_within_limits.ensures.0 c.if-not-is_within_limits.false in
     let pushed : c.push.new.self.items ≡ blocks ++ new_block tally.next_base c.args.size c.args.kind ∷ [] =
-        c.in_ok-push.ensures.items ∙ ap (λ (b : Block). blocks ++ b ∷ []) c.in_ok-block.ensures in
-    (
+    c.in_ok-push.ensures.items ∙ ap (λ (b : Block). blocks ++ b ∷ []) c.in_ok-block.ensures in (
       subst (λ (h : Heap). Fits h c.args.size c.args.kind) c.self.view_is (fits blocks tally c.with_block-tally.result c.args.size c.args.kind next within),
       rw (← c.self.view_is, pushed) (next_is blocks tally c.with_block-tally.result c.args.size c.args.kind next),
-      omega arith
+      omega arith,
     )

@@ -1,7 +1,6 @@
-use Rattle.std.proofs.Common.{◌≡◌, None, Some, List, ℕ, length, inl, inr, subst, arith}
-use Rattle.c_memory.specs.Blocks.{Block, Heap, block_at}
+use Rattle.std.proofs.Common.{inl, inr, arith}
 use Rattle.byte_blocks.specs.Counts.{heap_of}
-use Rattle.byte_blocks.proofs.Places.{block_at-past, block_at-read}
+use Rattle.c_memory.proofs.Places.{block_at-past, block_at-read}
 use Rattle.byte_blocks.proofs.heap.Heap.find.Goals as goal
 use Rattle.byte_blocks.proofs.heap.Heap.find.Goals.{else-number-ge1-via-then-number-ge1+else-number-len, else-number-ge1-via-else-number-ge1}
 

@@ -1,11 +1,11 @@
-use Rattle.std.proofs.Common.{◌≡◌, ◌-◌, ◌<◌, true, sym, subst, ap, ◌∙◌, arith}
+use Rattle.std.proofs.Common.{◌≡◌, ◌-◌, true, sym, subst, ap, ◌∙◌, arith}
 use Rattle.c_memory.specs.Blocks.{Block, Heap, ended, killed}
-use Rattle.c_memory.specs.Storage.{class_of}
 use Rattle.byte_blocks.specs.Asking.{lives}
-use Rattle.byte_blocks.specs.Counts.{Counts, heap_of}
+use Rattle.byte_blocks.specs.Counts.{heap_of}
 use Rattle.byte_blocks.proofs.Classes.{class_of-lt}
 use Rattle.byte_blocks.proofs.Counting.{Counts-ended, live_above}
-use Rattle.byte_blocks.proofs.Places.{LivesThere, lives_there, read_there, changed_there}
+use Rattle.byte_blocks.proofs.Living.{lives_there}
+use Rattle.c_memory.proofs.Places.{read_there, changed_there}
 use Rattle.byte_blocks.proofs.heap.Heap.kill.Goals as goal
 
 pub index-requires : goal.index-requires
@@ -37,10 +37,9 @@ invariant_of-self c =
     let size = c.size.ensures ∙ ap (λ (b : Block). b.size) read in
     let old = read_there heap c.args.block there.block c.index_mut.result.now there.stands_there c.index_mut.ensures.value in
     let new = c.end.ensures ∙ ap ended old in
-    rw (new, c.end_block.ensures, size)
-    (
+    rw (new, c.end_block.ensures, size) (
       Counts-ended heap.blocks c.self.inside.tally (c.args.block - 1) there.block there.stands_there.within (there.stands_there.is_there there.block) there.is_live (omega arith) (class_of-lt there.block.size) c.self.invariant.0,
-      record { storage = c.self.invariant.1.storage; bases = c.self.invariant.1.bases }
+      record { storage = c.self.invariant.1.storage; bases = c.self.invariant.1.bases },
     )
 
 pub returns : goal.returns

@@ -1,6 +1,4 @@
-use Rattle.std.proofs.Common.{◌∙◌, ap, ℕ, ◌≡◌, true}
-use Rattle.c_memory.specs.Access.{is_within}
-use Rattle.byte_blocks.proofs.Accesses.{around}
+use Rattle.c_memory.proofs.Accesses.{around}
 use Rattle.byte_blocks.proofs.heap.Heap.read.Goals as goal
 
 pub word-requires-clause-within : goal.word-requires-clause-within

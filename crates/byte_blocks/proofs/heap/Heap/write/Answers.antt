@@ -1,10 +1,10 @@
-use Rattle.std.proofs.Common.{◌≡◌, ◌-◌, Some, sym, subst, ap, ◌∙◌, arith, length}
-use Rattle.c_memory.specs.Access.{distance, within, with_word, write_of, bytes_of}
+use Rattle.std.proofs.Common.{◌≡◌, ◌-◌, Some, sym, subst, ap, ◌∙◌, arith}
+use Rattle.c_memory.specs.Access.{distance, within, with_word, write_of}
 use Rattle.c_memory.specs.Blocks.{Block, Heap}
 use Rattle.byte_blocks.specs.Counts.{heap_of}
-use Rattle.byte_blocks.proofs.Accesses.{Around, around, written_there}
+use Rattle.c_memory.proofs.Accesses.{around, written_there}
 use Rattle.byte_blocks.proofs.Counting.{Counts-set}
-use Rattle.byte_blocks.proofs.Places.{Stands, stands, read_there}
+use Rattle.c_memory.proofs.Places.{stands, read_there}
 use Rattle.byte_blocks.proofs.heap.Heap.write.Goals as goal
 
 pub overflow_sub-at : goal.overflow_sub-at
@@ -35,13 +35,12 @@ invariant_of-self c =
     let there = around heap c.args.at c.bytes_of-n.result c.in-Some.block.now found in
     let stand = stands heap c.args.at.block c.in-Some.block.now there.found in
     let read = read_there heap c.args.at.block c.in-Some.block.now c.index_mut.result.now stand c.index_mut.ensures.value in
-    let new = c.put_word.ensures ∙ ap (λ (b : Block). with_word b c.distance-offset.result c.bytes_of-n.result c.args.what) read in
-    (
+    let new = c.put_word.ensures ∙ ap (λ (b : Block). with_word b c.distance-offset.result c.bytes_of-n.result c.args.what) read in (
       Counts-set heap.blocks c.self.inside.tally (c.args.at.block - 1) c.in-Some.block.now c.put_word.new.self stand.within (stand.is_there c.in-Some.block.now)
-      (ap (λ (b : Block). b.size) new)
-      (ap (λ (b : Block). b.is_live) new)
-      c.self.invariant.0,
-      c.self.invariant.1
+          (ap (λ (b : Block). b.size) new)
+          (ap (λ (b : Block). b.is_live) new)
+          c.self.invariant.0,
+      c.self.invariant.1,
     )
 
 pub returns : goal.returns

@@ -1,11 +1,8 @@
--- Blocks by their numbers.
-use Rattle.std.proofs.Common.{◌⊎◌, inl, inr, ◌≡◌, ℕ, zero, suc, ◌+◌, ◌-◌, ◌<◌, ◌≤◌, Option, Some, None, List, [], ◌∷◌, length, get_or, refl, sym, ap, ◌∙◌, arith, true, false}
+-- Blocks by their numbers, and what stands under a number after a change.
+use Rattle.std.proofs.Common.{◌⊎◌, inl, inr, ◌≡◌, ℕ, zero, suc, ◌-◌, ◌<◌, ◌≤◌, Some, None, List, [], ◌∷◌, length, get_or, refl, sym, ◌∙◌, arith}
 use Rattle.std.specs.List.{slice_get}
-use Rattle.std.proofs.Math.ListN.{set}
-use Rattle.std.proofs.lemmas.Option.{slice_get-get_or, slice_get_read, slice_get_within, get_or_from_slice_get, slice_get_past}
-use Rattle.std.proofs.lemmas.Bool.{and_parts}
-use Rattle.c_memory.specs.Blocks.{Block, Heap, block_at, block_in, with_block, changed_at, is_live_object, is_object}
-use Rattle.byte_blocks.specs.Asking.{lives, lives_in}
+use Rattle.std.proofs.lemmas.Option.{slice_get_read, slice_get_within, get_or_from_slice_get, slice_get_past}
+use Rattle.c_memory.specs.Blocks.{Block, Heap, block_at, block_in, with_block, changed_at}
 
 pub block_in-slice_get : (blocks : List Block) (place : ℕ) → block_in blocks place ≡ slice_get blocks place
 block_in-slice_get [] place = refl
@@ -48,25 +45,6 @@ block_at-past heap (suc place) h =
     block_in-slice_get heap.blocks place ∙ slice_get_past heap.blocks place past
 
 -- ---- a block is changed
-
--- a live object that has a number
-pub record LivesThere (heap : Heap) (number : ℕ) : Type 0 where
-  pub block : Block
-  pub stands_there : Stands heap number block
-  pub found : block_at heap number ≡ Some block
-  pub is_live : block.is_live ≡ true
-
-live_one : (heap : Heap) (number : ℕ) (found : Option Block) → block_at heap number ≡ found → lives_in found ≡ true → LivesThere heap number
-live_one heap number None e h = cc
-live_one heap number (Some block) e h = record {
-  block = block;
-  stands_there = stands heap number block e;
-  found = e;
-  is_live = (and_parts (is_object block.kind) block.is_live h).1;
-}
-
-pub lives_there : (heap : Heap) (number : ℕ) → lives heap number ≡ true → LivesThere heap number
-lives_there heap number h = live_one heap number (block_at heap number) refl h
 
 -- what a read of its place gives
 pub read_there : (heap : Heap) (number : ℕ) (block read : Block) → Stands heap number block → read ≡ get_or heap.blocks (number - 1) read → read ≡ block

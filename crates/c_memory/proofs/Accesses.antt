@@ -41,8 +41,8 @@ pub copied_there : (heap : Heap) (to from : Word) (n : ℕ) (source target new :
 copied_there heap to from n source target new from_there to_there open_there h =
     rw (from_there, to_there, h)
     (
-      cond-false target.is_sealed
-      (Err (copy_no.ReadOnly (refused heap to n)))
-      (Ok (with_block heap to.block (with_copy target source (distance to.value target.base) (distance from.value source.base) n)))
-      open_there
+    cond-false target.is_sealed
+    (Err (copy_no.ReadOnly (refused heap to n)))
+    (Ok (with_block heap to.block (with_copy target source (distance to.value target.base) (distance from.value source.base) n)))
+    open_there
     )

@@ -1,5 +1,5 @@
 -- The low bytes of a word.
-use Rattle.std.proofs.Common.{◌≡◌, ℕ, zero, suc, ◌/◌, ◌%◌, ◌==◌, ◌&&◌, ◌≤◌, ◌⊎◌, inl, inr, List, [], ◌∷◌, take, refl, arith, false, ne_eqb}
+use Rattle.std.proofs.Common.{◌≡◌, ℕ, zero, suc, ◌/◌, ◌%◌, ◌==◌, ◌&&◌, ◌≤◌, ◌⊎◌, inl, inr, [], ◌∷◌, take, refl, arith, false, ne_eqb}
 use Rattle.std.proofs.lemmas.Bool.{and_left, and_right}
 use Rattle.fsc_base.specs.declared.word.Word.{Word}
 use Rattle.c_memory.specs.Access.{with_bytes, with_word}
