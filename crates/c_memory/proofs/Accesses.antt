@@ -3,9 +3,10 @@ use Rattle.std.proofs.Common.{◌≡◌, ℕ, Option, Some, None, Ok, Err, true,
 use Rattle.std.proofs.lemmas.Bool.{cond-false}
 use Rattle.std.proofs.lemmas.Option.{cond_some}
 use Rattle.fsc_base.specs.declared.word.Word.{Word}
+use Rattle.fsc_base.specs.declared.word.Width.{Width}
 use Rattle.c_memory.specs.declared.access.WriteNo.TheVariants as write_no
 use Rattle.c_memory.specs.declared.access.CopyNo.TheVariants as copy_no
-use Rattle.c_memory.specs.Access.{refused, distance, is_within, object_around, within, written_in}
+use Rattle.c_memory.specs.Access.{bytes_of, distance, is_within, object_around, read_in, read_of, refused, within, written_in}
 use Rattle.c_memory.specs.Blocks.{Block, Heap, block_at, with_block}
 use Rattle.c_memory.specs.Copying.{copied_in, with_copy}
 
@@ -46,3 +47,22 @@ copied_there heap to from n source target new from_there to_there open_there h =
     (Ok (with_block heap to.block (with_copy target source (distance to.value target.base) (distance from.value source.base) n)))
     open_there
     )
+
+-- ---- the same block
+
+-- an access finds what it found where the block of its word is the same
+pub within-same : (new heap : Heap) (at : Word) (n : ℕ) → block_at new at.block ≡ block_at heap at.block → within new at n ≡ within heap at n
+unfolding within
+within-same new heap at n h = rw h refl
+
+read_in-same : (new heap : Heap) (at : Word) (n : ℕ) (found : Option Block) → block_at new at.block ≡ block_at heap at.block
+    → read_in new at n found ≡ read_in heap at n found
+read_in-same new heap at n None h = rw h refl
+read_in-same new heap at n (Some block) h = refl
+
+-- and reads what it read
+pub read_of-same : (new heap : Heap) (at : Word) (width : Width) → block_at new at.block ≡ block_at heap at.block → read_of new at width ≡ read_of heap at width
+unfolding read_of
+read_of-same new heap at width h =
+    ap (λ (found : Option Block). read_in new at (bytes_of width) found) (within-same new heap at (bytes_of width) h)
+    ∙ read_in-same new heap at (bytes_of width) (within heap at (bytes_of width)) h

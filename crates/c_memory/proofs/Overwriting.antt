@@ -1,7 +1,7 @@
 -- Lists in which some items were overwritten: their length, what stands where items were put, and what stands beside.
 use Rattle.std.proofs.Common.{◌≡◌, ℕ, suc, ◌+◌, ◌-◌, ◌<◌, ◌≤◌, ◌⊎◌, min, inl, inr, List, [], ◌∷◌, ◌++◌, length, take, drop, get_or, refl, sym, ap, ◌∙◌, arith, rules}
 use Rattle.std.proofs.Math.ListN.{set}
-use Rattle.std.proofs.lemmas.List.{places, same_lists, set_split, drop-drop, length-drop, length-take, length-take-le, take_at, drop_at, get_or_append_left, get_or-append_right, get_or-take, get_or-drop, take-append-le, take-take, drop_all, append-nil}
+use Rattle.std.proofs.lemmas.List.{append_assoc, length-append, take-append-drop, places, same_lists, set_split, drop-drop, length-drop, length-take, length-take-le, take_at, drop_at, get_or_append_left, get_or-append_right, get_or-take, get_or-drop, take-append-le, take-take, drop_all, append-nil}
 use Rattle.c_memory.specs.Bytes.{overwritten}
 use borrow.Rule.Slice.PartMut.{put_mid}
 
@@ -87,3 +87,31 @@ part-overwritten_beside all place items from n h apart =
     ∙ get_or-drop from (overwritten all place items) k d
     ∙ get_or-overwritten_beside all place items (from + k) d h beside
     ∙ sym (get_or-take n (drop from all) k d fits ∙ get_or-drop from all k d))
+
+-- ---- several times
+
+-- nothing
+pub overwritten-nothing : {T : Type 0} (all : List T) (place : ℕ) → overwritten all place [] ≡ all
+overwritten-nothing all place = let e : place + 0 ≡ place = omega arith in rw e (take-append-drop place all)
+
+-- the same place again
+pub overwritten-again : {T : Type 0} (all : List T) (place : ℕ) (first second : List T) → place + length first ≤ length all → length second ≡ length first
+    → overwritten (overwritten all place first) place second ≡ overwritten all place second
+overwritten-again all place first second h e =
+    rw (
+      take-overwritten all place first place (omega arith) (omega arith),
+      drop-overwritten all place first (place + length second) (omega arith) h,
+    )
+    refl
+
+-- one behind the other
+pub overwritten-append : {T : Type 0} (all : List T) (place : ℕ) (first second : List T) (next : ℕ) → next ≡ place + length first → next + length second ≤ length all
+    → overwritten (overwritten all place first) next second ≡ overwritten all place (first ++ second)
+overwritten-append all place first second next e h =
+    let front : take next (overwritten all place first) ≡ take place all ++ first =
+    ap (λ (l : _). take next l) (sym (append_assoc (take place all) first (drop (place + length first) all)))
+    ∙ take_at (take place all ++ first) (drop (place + length first) all) next (omega (arith, length-append (take place all) first, length-take-le place all (omega arith))) in
+    let behind = drop-overwritten all place first (next + length second) (omega arith) (omega arith) in
+    let far : next + length second ≡ place + length (first ++ second) = omega (arith, length-append first second) in
+    rw (front, behind, far) (append_assoc (take place all) first (second ++ drop (place + length (first ++ second)) all)
+    ∙ ap (λ (l : _). take place all ++ l) (sym (append_assoc first second (drop (place + length (first ++ second)) all))))
