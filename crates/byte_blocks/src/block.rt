@@ -133,11 +133,10 @@ impl Block {
         requires { is_within self.now offset n ≡ true }
         ensures { result ≡ base_in self.now offset n }
     {
-        if n == 4 && offset % 4 == 0 {
-            self.bases[(offset / 4) as usize]
-        } else {
-            0
+        if n != 4 || offset % 4 != 0 {
+            return 0;
         }
+        self.bases[(offset / 4) as usize]
     }
 
     /// `n` of its bytes, from an offset on.

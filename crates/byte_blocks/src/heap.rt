@@ -150,13 +150,13 @@ impl Heap {
         requires { 0 < n }
         ensures { Writes (clear_of self.old at n) self.old self.new result }
     {
-        let Some(block) = self.within(at, n) else {
+        let Some(object) = self.within(at, n) else {
             return Err(WriteNo::Outside(self.refused(at, n)));
         };
-        if block.is_sealed() {
+        if object.is_sealed() {
             return Err(WriteNo::ReadOnly(self.refused(at, n)));
         }
-        let offset = block.distance(at.value);
+        let offset = object.distance(at.value);
         self.blocks[at.block as usize - 1].put_zeros(offset, n);
         Ok(())
     }
