@@ -1,1 +1,2 @@
 pub mod HideSetLaws
+pub mod CharacterLaws

@@ -1,1 +1,5 @@
 pub mod HideSets
+pub mod Spelling
+pub mod Scanning
+pub mod Characters
+pub mod CharacterLoop
