@@ -1,2 +1,3 @@
 pub mod HideSetLaws
 pub mod CharacterLaws
+pub mod UnclosedLaws

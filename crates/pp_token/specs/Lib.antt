@@ -3,3 +3,5 @@ pub mod Spelling
 pub mod Scanning
 pub mod Characters
 pub mod CharacterLoop
+pub mod Tokens
+pub mod Stepping

@@ -1,5 +1,5 @@
 -- The token at the front of a text, read from left to right.
-use Rattle.std.specs.Prelude.{◌≡◌, ℕ, length, ◌+◌, ◌==◌, ◌&&◌, ◌||◌, Bool, true, false, not, List, [], ◌∷◌, Option, Some, None, if◌then◌else◌}
+use Rattle.std.specs.Prelude.{ℕ, length, nat_lt, slice_index, ◌+◌, ◌==◌, ◌&&◌, ◌||◌, Bool, true, false, not, List, [], ◌∷◌, Option, Some, None, if◌then◌else◌}
 use Rattle.std.specs.List.{prefix_len}
 use Rattle.std.specs.Char.{is_ascii_digit}
 use Rattle.pp_token.specs.declared.token.PpKind.{PpKind}
@@ -97,11 +97,6 @@ first_found n kind other = if n == 0 then other else record { kind = kind; lengt
 unfoldable pub plain : List ℕ → Found
 plain text = first_found (name_length text) kinds.Name (first_found (number_length text) kinds.Number (first_found (punctuator_length text) kinds.Punct (record { kind = kinds.Other; length = 1 })))
 
--- what a function found, seen by view, is what reading gives
-abbrev pub Finds : {X Y : Type 0} → (X → Y) → Option X → Option Y → Type 0
-Finds view None read = read ≡ None
-Finds view (Some x) read = read ≡ Some (view x)
-
 abbrev pub quoted_from : Option (Opening × List ℕ) → Option Found
 quoted_from None = None
 quoted_from (Some opened) = quoted opened.0 opened.1
@@ -122,3 +117,27 @@ front text = or_plain (quoted_at text) text
 unfoldable pub kind_of : List ℕ → Option PpKind
 kind_of [] = None
 kind_of (c ∷ cs) = if is_blank c || c == 10 then None else (if (front (c ∷ cs)).length == length (c ∷ cs) then Some (front (c ∷ cs)).kind else None)
+
+-- what a header name has between its delimiters
+abbrev pub is_in_header : ℕ → ℕ → Bool
+is_in_header close c = not (c == close) && not (c == 10)
+
+-- how many characters up to and with the delimiter that closes a header name on this line, behind one at least
+unfoldable pub header_rest : ℕ → List ℕ → Option ℕ
+header_rest close text =
+    let n = prefix_len (is_in_header close) text in
+    if nat_lt 0 n && (nat_lt n (length text) && slice_index text n == close) then Some (n + 1) else None
+
+abbrev pub header_found : Option ℕ → Option Found
+header_found None = None
+header_found (Some n) = Some (record { kind = kinds.Header; length = 1 + n })
+
+-- the header name at the front
+unfoldable pub header_at : List ℕ → Option Found
+header_at [] = None
+header_at (c ∷ cs) = if c == 60 then header_found (header_rest 62 cs) else (if c == 34 then header_found (header_rest 34 cs) else None)
+
+-- how many characters up to and with the */ that closes a comment; a * may stand just before
+abbrev pub comment_rest : Bool → List ℕ → Option ℕ
+comment_rest starred [] = None
+comment_rest starred (c ∷ cs) = if starred && c == 47 then Some 1 else further 1 (comment_rest (c == 42) cs)

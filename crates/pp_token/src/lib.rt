@@ -3,6 +3,8 @@
 
 mod characters;
 mod hide_set;
+mod piece;
+mod reading;
 mod spelling;
 mod token;
 mod unit;

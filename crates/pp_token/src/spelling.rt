@@ -1,8 +1,7 @@
 //! Preprocessing tokens by their spelling (C90 6.1).
 
-ghost use Rattle.std.specs.Prelude.{◌≡◌, ◌≤◌, ◌<◌, length, false, IfSome};
+ghost use Rattle.std.specs.Prelude.{◌≡◌, ◌≤◌, ◌<◌, ◌+◌, length, false, IfSome, option_map};
 ghost use Rattle.std.specs.List.{prefix_len};
-ghost use Rattle.pp_token.specs.Scanning.{Finds};
 ghost use Rattle.pp_token.specs.Spelling as words;
 ghost use Rattle.pp_token.specs.Scanning as scanning;
 
@@ -166,7 +165,9 @@ pub struct Found {
 /// 6.1.4).
 #[tactic(auto, unfolding(crate::specs::Scanning::quoted))]
 pub fn quoted(opening: Opening, behind: &[u8]) -> Option<Found>
-    ensures { result ≡ scanning.quoted opening behind.now }
+    ensures found { result ≡ scanning.quoted opening behind.now }
+    ensures within { IfSome result (λ found. found.length ≤ scanning.front_of opening + length behind.now) }
+    ensures some { IfSome result (λ found. 0 < found.length) }
 {
     let length = closing(opening.quote.character(), behind)?;
     let front = if opening.wide { 2 } else { 1 };
@@ -225,8 +226,9 @@ fn punctuator_length(text: &[u8]) -> usize
 
 /// What opens at the front, and the text behind its quote.
 #[tactic(auto, unfolding(crate::specs::Scanning::opening_at))]
-fn opening_at(text: &[u8]) -> Option<(Opening, &[u8])>
-    ensures { Finds (λ found. (found.0, found.1.now)) result (scanning.opening_at text.now) }
+pub fn opening_at(text: &[u8]) -> Option<(Opening, &[u8])>
+    ensures found { option_map (λ found. (found.0, found.1.now)) result ≡ scanning.opening_at text.now }
+    ensures within { IfSome result (λ found. scanning.front_of found.0 + length found.1.now ≡ length text.now) }
 {
     match text {
         [b'L', c, behind @ ..] => {
