@@ -1,5 +1,5 @@
 -- A quote that isn't closed on its line leaves each later one like it unclosed there.
-use Rattle.std.proofs.Common.{◌≡◌, ℕ, zero, suc, ◌+◌, ◌==◌, ◌⊎◌, Bool, true, false, ◌&&◌, ◌||◌, not, cond, List, [], ◌∷◌, take, drop, Option, Some, None, refl, sym, ap, ◌∙◌, subst, inl, inr}
+use Rattle.std.proofs.Common.{◌≡◌, ℕ, zero, suc, ◌+◌, ◌==◌, ◌⊎◌, Bool, true, false, ◌&&◌, ◌||◌, not, cond, List, [], ◌∷◌, ◌++◌, Option, Some, None, refl, sym, ap, ◌∙◌, subst, inl, inr}
 use Rattle.std.specs.List.{list_any}
 use Rattle.std.proofs.lemmas.Bool.{eqb-true, eq-eqb}
 use Rattle.pp_token.specs.declared.spelling.Found.{Found}
@@ -146,18 +146,17 @@ either_false true b e = cc
 either_false false b e = (refl, e)
 
 -- passing over characters of the line keeps what is known
-pub open_passed : (quote n : ℕ) (text : List ℕ) → list_any (λ c. c == 10) (take n text) ≡ false → AllOpen quote text → AllOpen quote (drop n text)
-open_passed quote zero text e all = all
-open_passed quote (suc n) [] e all = all
-open_passed quote (suc n) (c ∷ cs) e all =
-    let parts = either_false (c == 10) (list_any (λ (x : ℕ). x == 10) (take n cs)) e in
+open_passed : (quote : ℕ) (passed rest : List ℕ) → list_any (λ c. c == 10) passed ≡ false → AllOpen quote (passed ++ rest) → AllOpen quote rest
+open_passed quote [] rest e all = all
+open_passed quote (c ∷ cs) rest e all =
+    let parts = either_false (c == 10) (list_any (λ (x : ℕ). x == 10) cs) e in
     elim all [
-      | inl ends ↦ contradicts (c == 10) (AllOpen quote (drop n cs)) parts.0 (eq-eqb c 10 ends)
-      | inr it ↦ open_passed quote n cs parts.1 it.1
+      | inl ends ↦ contradicts (c == 10) (AllOpen quote rest) parts.0 (eq-eqb c 10 ends)
+      | inr it ↦ open_passed quote cs rest parts.1 it.1
     ]
 
-pub knows_passed : (unclosed : Unclosed) (n : ℕ) (text : List ℕ) → list_any (λ c. c == 10) (take n text) ≡ false → Knows unclosed text → Knows unclosed (drop n text)
-knows_passed unclosed n text e knows = record {
-  singles = λ m. open_passed 39 n text e (knows.singles m);
-  doubles = λ m. open_passed 34 n text e (knows.doubles m);
+pub knows_behind : (unclosed : Unclosed) (passed rest : List ℕ) → list_any (λ c. c == 10) passed ≡ false → Knows unclosed (passed ++ rest) → Knows unclosed rest
+knows_behind unclosed passed rest e knows = record {
+  singles = λ m. open_passed 39 passed rest e (knows.singles m);
+  doubles = λ m. open_passed 34 passed rest e (knows.doubles m);
 }

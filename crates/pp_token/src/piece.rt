@@ -1,10 +1,10 @@
 //! What stands at the front of a text: white space, a comment, the end of a line or a token.
 
-ghost use Rattle.std.specs.Prelude.{◌≡◌, ◌≤◌, ◌<◌, length, IfSome, false, take};
+ghost use Rattle.std.specs.Prelude.{◌≡◌, ◌≤◌, ◌<◌, ◌++◌, length, IfSome, false, take};
 ghost use Rattle.std.specs.List.{prefix_len};
 ghost use Rattle.pp_token.specs.Scanning as scanning;
 ghost use Rattle.pp_token.specs.Tokens as phase;
-ghost use Rattle.pp_token.specs.Stepping.{Knows, is_marked, marked};
+ghost use Rattle.pp_token.specs.Stepping.{Knows, is_marked, marked, nothing};
 
 use crate::spelling::{Found, Quote, is_blank, opening_at, plain, quoted};
 use crate::token::PpKind;
@@ -46,13 +46,24 @@ pub struct Unclosed {
 impl Unclosed {
     /// Nothing is known.
     pub fn none() -> Unclosed
-        ensures single { result.single ≡ false }
-        ensures double { result.double ≡ false }
+        ensures { result ≡ nothing }
     {
         Unclosed {
             single: false,
             double: false,
         }
+    }
+
+    /// What is known behind these characters: nothing where a line ended there.
+    #[tactic(auto, using(crate::proofs::UnclosedLaws::knows_behind))]
+    pub fn behind(self, passed: &[u8], rest: &[u8]) -> Unclosed
+        requires { Knows self (passed.now ++ rest.now) }
+        ensures { Knows result rest.now }
+    {
+        if passed.contains(&b'\n') {
+            return Unclosed::none();
+        }
+        self
     }
 }
 
