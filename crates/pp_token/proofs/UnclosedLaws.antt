@@ -70,9 +70,10 @@ opening_parts : (wide : Bool) (behind rest : List ℕ) (c : ℕ) (quote : Option
 opening_parts wide behind rest c None opening e h = cc
 opening_parts wide behind rest c (Some quote) opening e h =
     let it : Opening = record { quote = quote; wide = wide } in
-    let same : it ≡ opening = same_opening it opening behind rest h in
-    ( subst (λ (o : Opening). c ≡ character_of o.quote) same (quote_of_is c quote e)
-    , same_behind it opening behind rest h)
+    let same : it ≡ opening = same_opening it opening behind rest h in (
+      subst (λ (o : Opening). c ≡ character_of o.quote) same (quote_of_is c quote e),
+      same_behind it opening behind rest h,
+    )
 
 begins_two : (is_L : Bool) (c d : ℕ) (ds behind : List ℕ) (opening : Opening) → (is_L ≡ true → c ≡ 76) → cond is_L (with_opening true ds (quote_of d)) (with_opening false (d ∷ ds) (quote_of c)) ≡ opened opening behind → begins (c ∷ d ∷ ds) opening behind
 begins_two true c d ds behind opening l e =

@@ -99,7 +99,7 @@ phase_3 source spot spaced skip [] lines = Ok (token_of source source.end spaced
 phase_3 source spot spaced (suc skip) (b ∷ bs) lines = phase_3 source spot spaced skip bs (drop 1 lines)
 phase_3 source spot spaced zero (b ∷ bs) lines =
     given source spaced (slice_index lines 0) (b ∷ bs) (piece_at spot (b ∷ bs))
-      (phase_3 source (spot_behind spot (piece_at spot (b ∷ bs)) (b ∷ bs)) (is_space (piece_at spot (b ∷ bs))) (length_of (piece_at spot (b ∷ bs)) - 1) bs (drop 1 lines))
+    (phase_3 source (spot_behind spot (piece_at spot (b ∷ bs)) (b ∷ bs)) (is_space (piece_at spot (b ∷ bs))) (length_of (piece_at spot (b ∷ bs)) - 1) bs (drop 1 lines))
 
 -- the tokens of a file, or the rule that it breaks
 unfoldable pub tokens_of : ℕ → ℕ → List ℕ → Result (List PpToken) Broken

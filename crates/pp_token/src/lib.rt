@@ -10,6 +10,10 @@ mod token;
 mod unit;
 
 pub use hide_set::HideSet;
+pub use reading::pp_tokens;
 pub use spelling::kind_of;
 pub use token::{PpKind, PpToken, PpTokens};
 pub use unit::{Names, PpUnit};
+
+#[cfg(test)]
+mod tests;

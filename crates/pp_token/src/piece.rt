@@ -123,7 +123,9 @@ fn header_length(close: u8, text: &[u8]) -> usize
     ensures length { result ≡ prefix_len (scanning.is_in_header close) text.now }
     ensures within { result ≤ length text.now }
 {
-    text.iter().take_while(|c| **c != close && **c != b'\n').count()
+    text.iter()
+        .take_while(|c| **c != close && **c != b'\n')
+        .count()
 }
 
 /// How many characters up to and with `close`, which stands on this line behind at least one character.
@@ -150,11 +152,17 @@ fn header(text: &[u8]) -> Option<Found>
     match text {
         [b'<', behind @ ..] => {
             let rest = header_rest(b'>', behind)?;
-            Some(Found { kind: PpKind::Header, length: 1 + rest })
+            Some(Found {
+                kind: PpKind::Header,
+                length: 1 + rest,
+            })
         }
         [b'"', behind @ ..] => {
             let rest = header_rest(b'"', behind)?;
-            Some(Found { kind: PpKind::Header, length: 1 + rest })
+            Some(Found {
+                kind: PpKind::Header,
+                length: 1 + rest,
+            })
         }
         _ => None,
     }

@@ -37,7 +37,14 @@ impl Source {
     }
 
     /// A token of this text on this line.
-    fn token(self, alloc: Global, line: u32, spaced: bool, kind: PpKind, text: &[u8]) -> Result<PpToken, NoMemory>
+    fn token(
+        self,
+        alloc: Global,
+        line: u32,
+        spaced: bool,
+        kind: PpKind,
+        text: &[u8],
+    ) -> Result<PpToken, NoMemory>
         ensures { IfOk result (λ token. token ≡ phase.token_of self line spaced kind text.now) }
     {
         Ok(PpToken {
@@ -81,13 +88,17 @@ impl Reader<'_> {
                 place: self.source.place(line),
             })),
             Piece::LineEnd => {
-                let token = self.source.token(alloc, line, self.spaced, PpKind::LineEnd, &[])?;
+                let token = self
+                    .source
+                    .token(alloc, line, self.spaced, PpKind::LineEnd, &[])?;
                 tokens.push(token)?;
                 Ok(())
             }
             Piece::Token(found) => {
                 let text = &self.text[..found.length];
-                let token = self.source.token(alloc, line, self.spaced, found.kind, text)?;
+                let token = self
+                    .source
+                    .token(alloc, line, self.spaced, found.kind, text)?;
                 tokens.push(token)?;
                 Ok(())
             }
@@ -123,4 +134,83 @@ impl Reader<'_> {
         self.text = rest;
         self.lines = &self.lines[piece.length()..];
     }
+
+    /// Reads what stands at the front, and puts its token behind the others.
+    #[tactic(auto, using(crate::proofs::PhaseLaws::phase_3_step))]
+    fn step(&mut self, alloc: Global, tokens: &mut Vec<PpToken>) -> Result<(), Refused>
+        requires some { 0 < length self.old.text.now }
+        requires ready { IsReady self.old }
+        ensures ok { OnOk result (gathered tokens.new.items (all_of self.new) ≡ gathered tokens.old.items (all_of self.old)) }
+        ensures ready { OnOk result (IsReady self.new) }
+        ensures shorter { OnOk result (length self.new.text.now < length self.old.text.now) }
+        ensures err { IfErr result (λ refused. Refuses refused (all_of self.old)) }
+    {
+        let piece = piece_at(self.text, self.spot, &mut self.unclosed);
+        self.give(alloc, piece, tokens)?;
+        self.pass(piece);
+        Ok(())
+    }
+
+    /// Reads all that is left, and puts its tokens behind the others.
+    fn steps(&mut self, alloc: Global, tokens: &mut Vec<PpToken>) -> Result<(), Refused>
+        requires { IsReady self.old }
+        ensures ok { OnOk result (gathered tokens.new.items (all_of self.new) ≡ gathered tokens.old.items (all_of self.old)) }
+        ensures all { OnOk result (self.new.text.now ≡ []) }
+        ensures err { IfErr result (λ refused. Refuses refused (gathered tokens.old.items (all_of self.old))) }
+    {
+        'pieces: while !self.text.is_empty() {
+            self.step(alloc, tokens)?;
+        }
+        Ok(())
+    }
+
+    /// The tokens of all that is left, with End behind them.
+    fn all(&mut self, alloc: Global) -> Result<PpTokens, Refused>
+        requires { IsReady self.old }
+        ensures { phase.Gives result (all_of self.old) }
+    {
+        let mut tokens = Vec::new(alloc);
+        self.steps(alloc, &mut tokens)?;
+        let end = self
+            .source
+            .token(alloc, self.source.end, self.spaced, PpKind::End, &[])?;
+        tokens.push(end)?;
+        Ok(PpTokens::from_vec(tokens))
+    }
+}
+
+/// The preprocessing tokens of a file, phases 1 to 3 of a translation (C90 5.1.1.2 and 6.1): `bytes` is what the file
+/// `file` of the unit `unit` has. Each line that has anything ends by a LineEnd, also a last one without a line feed;
+/// the last token is End, on the line behind the last line feed. Refuses as L14, on line 1, a file of more than 2^24
+/// bytes, and as K32, on the line where it opens, the first comment that isn't closed. Refuses as `NoMemory` where no
+/// memory is left for the tokens.
+#[tactic(auto, unfolding(crate::specs::Tokens::tokens_of))]
+pub fn pp_tokens(alloc: Global, unit: u32, file: u32, bytes: &[u8]) -> Result<PpTokens, Refused>
+    ensures { phase.Gives result (phase.tokens_of unit file bytes.now) }
+{
+    if bytes.len() > MOST_BYTES {
+        let place = Place {
+            unit,
+            file,
+            line: 1,
+        };
+        return Err(Refused::Broken(Broken {
+            rule: Rule::L14,
+            place,
+        }));
+    }
+    let characters = Characters::new(alloc, bytes)?;
+    let mut reader = Reader {
+        source: Source {
+            unit,
+            file,
+            end: characters.end,
+        },
+        text: characters.bytes.as_slice(),
+        lines: characters.lines.as_slice(),
+        spot: Spot::LineStart,
+        spaced: false,
+        unclosed: Unclosed::none(),
+    };
+    reader.all(alloc)
 }
