@@ -1,5 +1,5 @@
 -- The headers that are built in.
-use Rattle.std.specs.Prelude.{◌≡◌, ℕ, List, [], ◌∷◌, ◌++◌, codes, Option, Some, None, if◌then◌else◌}
+use Rattle.std.specs.Prelude.{ℕ, List, [], ◌∷◌, ◌++◌, codes, Option, option_map, find}
 use Rattle.std.specs.Str.{bytes_eq}
 
 abbrev pub stdio_h : List ℕ
@@ -158,10 +158,4 @@ headers =
 
 -- the text beside a name
 abbrev pub text_of : List ℕ → List (List ℕ × List ℕ) → Option (List ℕ)
-text_of name [] = None
-text_of name (entry ∷ entries) = if bytes_eq name entry.0 then Some entry.1 else text_of name entries
-
--- a text that was found, seen as its bytes
-abbrev pub Finds : {X : Type 0} → (X → List ℕ) → Option X → Option (List ℕ) → Type 0
-Finds bytes None text = text ≡ None
-Finds bytes (Some found) text = text ≡ Some (bytes found)
+text_of name entries = option_map (λ (entry : List ℕ × List ℕ). entry.1) (find (λ (entry : List ℕ × List ℕ). bytes_eq entry.0 name) entries)

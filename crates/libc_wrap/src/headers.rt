@@ -1,5 +1,9 @@
 //! The headers that are built in.
 
+ghost use Rattle.std.specs.Prelude.{◌≡◌, option_map, find};
+ghost use Rattle.std.specs.Str.{bytes_eq};
+ghost use Rattle.libc_wrap.specs.Header.{headers, text_of};
+
 use fsc_base::Name;
 
 /// What `#include <stdio.h>` adds.
@@ -151,17 +155,59 @@ const LIMITS: &[u8] = b"\
 #endif\n\
 ";
 
+/// A header.
+struct BuiltIn {
+    name: &'static [u8],
+    text: &'static [u8],
+}
+
+static HEADERS: [BuiltIn; 8] = [
+    BuiltIn {
+        name: b"stdio.h",
+        text: STDIO,
+    },
+    BuiltIn {
+        name: b"stdlib.h",
+        text: STDLIB,
+    },
+    BuiltIn {
+        name: b"string.h",
+        text: STRING,
+    },
+    BuiltIn {
+        name: b"ctype.h",
+        text: CTYPE,
+    },
+    BuiltIn {
+        name: b"stddef.h",
+        text: STDDEF,
+    },
+    BuiltIn {
+        name: b"stdarg.h",
+        text: STDARG,
+    },
+    BuiltIn {
+        name: b"assert.h",
+        text: ASSERT,
+    },
+    BuiltIn {
+        name: b"limits.h",
+        text: LIMITS,
+    },
+];
+
+/// The first of these headers that has the name.
+fn named<'a>(headers: &'a [BuiltIn], name: &[u8]) -> Option<&'a BuiltIn>
+    ensures { option_map (λ header. header.now) result ≡ find (λ header. bytes_eq header.name.now name.now) headers.now }
+{
+    headers.iter().find(|header| header.name == name)
+}
+
 /// The text of the header of that name, None where no header has it. It takes no memory.
-pub fn header(name: &Name) -> Option<&'static [u8]> {
-    match name.as_slice() {
-        b"stdio.h" => Some(STDIO),
-        b"stdlib.h" => Some(STDLIB),
-        b"string.h" => Some(STRING),
-        b"ctype.h" => Some(CTYPE),
-        b"stddef.h" => Some(STDDEF),
-        b"stdarg.h" => Some(STDARG),
-        b"assert.h" => Some(ASSERT),
-        b"limits.h" => Some(LIMITS),
-        _ => None,
-    }
+#[tactic(auto, unfolding(crate::specs::Header::headers))]
+pub fn header(name: &Name) -> Option<&'static [u8]>
+    ensures { option_map (λ text. text.now) result ≡ text_of name.now headers }
+{
+    let found = named(&HEADERS, name.as_slice())?;
+    Some(found.text)
 }
