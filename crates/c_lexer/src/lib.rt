@@ -1,6 +1,9 @@
 //! Tokens: phases 5 to 7 of a translation (C90 5.1.1.2 and 6.1).
 #![tactic(auto)]
 
+mod character;
+mod floating;
+mod integer;
 mod keyword;
 mod punctuator;
 mod token;
