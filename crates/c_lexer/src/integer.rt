@@ -18,7 +18,7 @@ pub enum Radix {
 
 impl Radix {
     /// How many digits there are of this kind.
-    fn base(self) -> u32
+    pub fn base(self) -> u32
         ensures { result ≡ base self }
     {
         match self {
@@ -132,6 +132,7 @@ pub fn digits_number(base: u32, digits: &[u8]) -> Option<u32>
 }
 
 /// An integer constant in its parts.
+#[derive(Clone, Copy, Debug)]
 pub struct IntegerParts<'a> {
     pub radix: Radix,
     pub digits: &'a [u8],
@@ -157,7 +158,7 @@ pub fn read_integer(text: &[u8]) -> Option<IntegerParts>
 }
 
 /// The types that a constant of this form may have, of which it has the first that its value fits.
-fn candidates(radix: Radix, suffix: Suffix) -> &'static [BasicType]
+pub fn candidates(radix: Radix, suffix: Suffix) -> &'static [BasicType]
     ensures { result.now ≡ candidates radix suffix }
 {
     match (suffix, radix) {
@@ -172,7 +173,7 @@ fn candidates(radix: Radix, suffix: Suffix) -> &'static [BasicType]
 }
 
 /// The first of these types that the value fits.
-fn first_fitting(value: u32, types: &[BasicType]) -> Option<BasicType>
+pub fn first_fitting(value: u32, types: &[BasicType]) -> Option<BasicType>
     ensures { result ≡ first_fitting value types.now }
 {
     types.iter().copied().find(|basic| value <= basic.greatest())

@@ -5,9 +5,13 @@ mod character;
 mod floating;
 mod integer;
 mod keyword;
+mod lexing;
+mod literal;
 mod punctuator;
+mod single;
 mod token;
 
 pub use keyword::{Keyword, read_keyword};
+pub use lexing::tokens;
 pub use punctuator::{Punctuator, read_punctuator};
 pub use token::{BasicType, Token, TokenKind, Tokens};
