@@ -1,20 +1,19 @@
 -- The token at the front of a text is the longest that is there.
-use Rattle.std.proofs.Common.{◌≡◌, ℕ, zero, suc, ◌+◌, ◌-◌, ◌<◌, ◌≤◌, ◌==◌, ◌⊎◌, Bool, true, false, ◌&&◌, ◌||◌, not, cond, List, [], ◌∷◌, ◌++◌, length, take, drop, Option, Some, None, is_some, unwrap_or, refl, sym, ap, ◌∙◌, subst, inl, inr, arith, add-one, codes}
-use Rattle.std.specs.List.{list_any, list_all, prefix_len}
-use Rattle.std.specs.Char.{is_ascii_digit, is_ascii_alphabetic}
+use Rattle.std.proofs.Common.{◌≡◌, ℕ, zero, suc, ◌+◌, ◌<◌, ◌≤◌, ◌==◌, Bool, true, false, ◌&&◌, ◌||◌, not, List, [], ◌∷◌, length, take, Option, Some, None, refl, sym, ap, subst, inl, inr, arith}
+use Rattle.std.specs.List.{list_any, list_all}
+use Rattle.std.specs.Char.{is_ascii_digit}
 use Rattle.std.specs.Str.{bytes_eq}
-use Rattle.std.proofs.lemmas.Bool.{eqb-true, eq-eqb}
+use Rattle.std.proofs.lemmas.Bool.{eqb-true}
 use Rattle.std.proofs.lemmas.Slice.Eq.{bytes_eq-Decides}
 use Rattle.pp_token.specs.declared.token.PpKind.{PpKind}
-use Rattle.pp_token.specs.declared.token.PpKind.TheVariants as kinds
 use Rattle.pp_token.specs.declared.spelling.Found.{Found}
 use Rattle.pp_token.specs.declared.spelling.Quote.{Quote}
 use Rattle.pp_token.specs.declared.spelling.Quote.TheVariants.{Single, Double}
 use Rattle.pp_token.specs.declared.spelling.Opening.{Opening}
-use Rattle.pp_token.specs.Spelling.{is_nondigit, is_name_character, is_blank, punctuators_of_1, punctuators_of_2, punctuators_of_3, is_punctuator_of_1, is_punctuator_of_2, is_punctuator_of_3, is_name, is_number, is_closed, is_between, is_quoted, is_punctuator, is_one, kind_by, kind_of, longest, is_token, longest_token}
-use Rattle.pp_token.specs.Scanning.{name_length, number_length, fraction_length, closing, character_of, kind_of_quote, front_of, opening_at, with_length, quoted, quoted_at, punctuator_length, first_found, plain, front}
+use Rattle.pp_token.specs.Spelling.{is_nondigit, is_name_character, punctuators_of_1, punctuators_of_2, punctuators_of_3, is_punctuator_of_1, is_punctuator_of_2, is_punctuator_of_3, is_closed, is_between, is_quoted, is_punctuator}
+use Rattle.pp_token.specs.Scanning.{name_length, number_length, closing, character_of, kind_of_quote, front_of, opening_at, with_length, quoted, quoted_at, punctuator_length}
 use Rattle.pp_token.proofs.UnclosedLaws.{opened, begins, opening_begins}
-use Rattle.pp_token.proofs.LongestLaws.{not_true, closed_within, closed_prefix, name_within, name_prefix, number_length_within, number_length_prefix, punctuator_within, punctuator_prefix, one_within, nondigit_no_digit, nondigit_no_dot, both, one_of, or_true, and_true}
+use Rattle.pp_token.proofs.LongestLaws.{closed_within, closed_prefix, punctuator_prefix, both, one_of, or_true}
 
 -- what a punctuator does not begin with
 pub starts : ℕ → Bool

@@ -5,3 +5,5 @@ pub mod PhaseLaws
 pub mod LongestLaws
 pub mod FrontLaws
 pub mod TokenLaws
+pub mod HeaderLaws
+pub mod KindLaws

@@ -1,16 +1,11 @@
 -- The token that is read from left to right is the longest.
-use Rattle.std.proofs.Common.{◌≡◌, ℕ, zero, suc, ◌+◌, ◌-◌, ◌<◌, ◌≤◌, ◌==◌, ◌⊎◌, Bool, true, false, ◌&&◌, ◌||◌, not, cond, List, [], ◌∷◌, ◌++◌, length, take, drop, Option, Some, None, refl, sym, ap, ◌∙◌, subst, inl, inr, arith, add-one, codes}
-use Rattle.std.specs.List.{list_any, list_all, prefix_len}
-use Rattle.std.specs.Char.{is_ascii_digit, is_ascii_alphabetic}
-use Rattle.std.specs.Str.{bytes_eq}
-use Rattle.std.proofs.lemmas.Bool.{eqb-true, eq-eqb}
+use Rattle.std.proofs.Common.{◌≡◌, ℕ, zero, suc, ◌+◌, ◌<◌, ◌≤◌, ◌==◌, ◌⊎◌, Bool, true, false, ◌&&◌, ◌||◌, not, cond, List, [], ◌∷◌, length, take, Option, Some, None, refl, ap, inl, inr, arith}
+use Rattle.std.specs.List.{list_all, prefix_len}
+use Rattle.std.specs.Char.{is_ascii_digit}
+use Rattle.std.proofs.lemmas.Bool.{eqb-true}
 use Rattle.std.proofs.lemmas.Bool.Decides.{nat_tests}
-use Rattle.std.proofs.lemmas.Slice.Eq.{bytes_eq-Decides}
-use Rattle.pp_token.specs.declared.token.PpKind.{PpKind}
-use Rattle.pp_token.specs.declared.token.PpKind.TheVariants as kinds
-use Rattle.pp_token.specs.declared.spelling.Found.{Found}
-use Rattle.pp_token.specs.Spelling.{is_nondigit, is_name_character, number_goes_on, is_blank, punctuators_of_1, punctuators_of_2, punctuators_of_3, is_punctuator_of_1, is_punctuator_of_2, is_punctuator_of_3, is_name, goes_on, is_digits, is_number, is_empty, is_closed, is_between, is_quoted, is_punctuator, is_one, kind_by, kind_of, longest, is_token, longest_token}
-use Rattle.pp_token.specs.Scanning.{name_length, number_rest, fraction_length, number_length, further, closing, begins_with_1, begins_with_2, begins_with_3, punctuator_length, first_found, plain}
+use Rattle.pp_token.specs.Spelling.{is_nondigit, is_name_character, number_goes_on, is_punctuator_of_1, is_punctuator_of_2, is_punctuator_of_3, is_name, goes_on, is_digits, is_number, is_empty, is_closed, is_punctuator, is_one}
+use Rattle.pp_token.specs.Scanning.{name_length, number_rest, fraction_length, number_length, further, closing, begins_with_2, begins_with_3, punctuator_length}
 
 pub not_true : (b : Bool) → (b ≡ true → ⊥) → b ≡ false
 not_true true f = absurd (f refl)
@@ -58,10 +53,10 @@ number_within previous (suc k) (c ∷ cs) low e =
     rw parts.0 (omega arith)
 
 -- quotes
-some_more : (k : ℕ) → further 1 (Some k) ≡ Some (suc k)
+pub some_more : (k : ℕ) → further 1 (Some k) ≡ Some (suc k)
 some_more k = ap (λ (n : ℕ). Some n) (omega arith)
 
-empty_taken : (k : ℕ) (cs : List ℕ) → k ≤ length cs → is_empty (take k cs) ≡ true → k ≡ 0
+pub empty_taken : (k : ℕ) (cs : List ℕ) → k ≤ length cs → is_empty (take k cs) ≡ true → k ≡ 0
 empty_taken zero cs low e = refl
 empty_taken (suc k) [] low e = absurd (omega arith)
 empty_taken (suc k) (c ∷ cs) low e = cc
@@ -97,7 +92,7 @@ number_prefix : (previous : ℕ) (cs : List ℕ) → goes_on previous (take (num
 number_prefix previous [] = refl
 number_prefix previous (c ∷ cs) = number_passes (number_goes_on previous c) previous c (number_rest c cs) cs refl (number_prefix c cs)
 
-further_parts : (k : ℕ) (found : Option ℕ) → further 1 found ≡ Some k → (j : ℕ) × (found ≡ Some j) × (k ≡ suc j)
+pub further_parts : (k : ℕ) (found : Option ℕ) → further 1 found ≡ Some k → (j : ℕ) × (found ≡ Some j) × (k ≡ suc j)
 further_parts k None e = cc
 further_parts k (Some j) e = (j, refl, (let same : k ≡ 1 + j = cc in omega arith))
 

@@ -1,5 +1,5 @@
 -- The token that is read from left to right is the longest.
-use Rattle.std.proofs.Common.{◌≡◌, ℕ, zero, suc, ◌+◌, ◌<◌, ◌≤◌, ◌==◌, ◌⊎◌, Bool, true, false, ◌&&◌, ◌||◌, not, cond, List, [], ◌∷◌, length, take, Option, Some, None, is_some, unwrap_or, refl, sym, ap, ◌∙◌, subst, inl, inr, arith}
+use Rattle.std.proofs.Common.{◌≡◌, ℕ, zero, suc, ◌<◌, ◌≤◌, ◌==◌, Bool, true, false, List, [], ◌∷◌, length, take, Some, None, refl, sym, ap, ◌∙◌, subst, inl, inr, arith}
 use Rattle.std.specs.Char.{is_ascii_digit}
 use Rattle.std.proofs.lemmas.Bool.{eqb-true}
 use Rattle.std.proofs.lemmas.Bool.{cases_lt}
@@ -10,8 +10,9 @@ use Rattle.pp_token.specs.declared.spelling.Quote.{Quote}
 use Rattle.pp_token.specs.declared.spelling.Quote.TheVariants.{Single, Double}
 use Rattle.pp_token.specs.Spelling.{is_nondigit, is_blank, is_name, is_number, is_quoted, is_punctuator, is_one, kind_by, kind_of, longest, is_token, longest_token}
 use Rattle.pp_token.specs.Scanning.{name_length, number_length, fraction_length, character_of, kind_of_quote, quoted_at, punctuator_length, first_found, plain, front, or_plain}
-use Rattle.pp_token.proofs.LongestLaws.{not_true, name_within, name_prefix, number_length_within, number_length_prefix, punctuator_within, punctuator_prefix, one_within, nondigit_no_digit, nondigit_no_dot, digit_no_nondigit}
-use Rattle.pp_token.proofs.FrontLaws.{starts, literal, quoted_found, IsLiteral, literal_at, no_name, no_number, no_punctuator, dot_digit, nondigit_starts, digit_starts, same_found}
+use Rattle.pp_token.specs.Stepping.{IsMark}
+use Rattle.pp_token.proofs.LongestLaws.{not_true, name_within, name_prefix, number_length_within, number_length_prefix, punctuator_within, punctuator_prefix, one_within, nondigit_no_digit, nondigit_no_dot}
+use Rattle.pp_token.proofs.FrontLaws.{literal, quoted_found, literal_at, no_name, no_number, no_punctuator, dot_digit, nondigit_starts, digit_starts, same_found}
 
 -- no token is longer
 record IsMost (text : List ℕ) (n : ℕ) : Type 0 where
@@ -28,12 +29,12 @@ longer_none : (text : List ℕ) (n k : ℕ) → IsMost text n → n < k → k �
 unfolding kind_of
 longer_none text n k most more low =
     no_kind (is_name (take k text)) (is_number (take k text)) (is_quoted 39 (take k text)) (is_quoted 34 (take k text)) (is_punctuator (take k text)) (is_one (take k text))
-      (not_true (is_name (take k text)) (λ e. let h : k ≤ name_length text = name_within k text low e in let m : name_length text ≤ n = most.names in absurd (omega arith)))
-      (not_true (is_number (take k text)) (λ e. let h : k ≤ number_length text = number_length_within k text low e in let m : number_length text ≤ n = most.numbers in absurd (omega arith)))
-      (not_true (is_quoted 39 (take k text)) (λ e. let h : k ≤ n = most.quotes (record { kind = kinds.Char; length = k }) (quoted_found Single k text low e) in absurd (omega arith)))
-      (not_true (is_quoted 34 (take k text)) (λ e. let h : k ≤ n = most.quotes (record { kind = kinds.Str; length = k }) (quoted_found Double k text low e) in absurd (omega arith)))
-      (not_true (is_punctuator (take k text)) (λ e. let h : k ≤ punctuator_length text = punctuator_within k text low e in let m : punctuator_length text ≤ n = most.punctuators in absurd (omega arith)))
-      (not_true (is_one (take k text)) (λ e. let h : k ≤ 1 = one_within k text low e in let m : 1 ≤ n = most.one in absurd (omega arith)))
+    (not_true (is_name (take k text)) (λ e. let h : k ≤ name_length text = name_within k text low e in let m : name_length text ≤ n = most.names in absurd (omega arith)))
+    (not_true (is_number (take k text)) (λ e. let h : k ≤ number_length text = number_length_within k text low e in let m : number_length text ≤ n = most.numbers in absurd (omega arith)))
+    (not_true (is_quoted 39 (take k text)) (λ e. let h : k ≤ n = most.quotes (record { kind = kinds.Char; length = k }) (quoted_found Single k text low e) in absurd (omega arith)))
+    (not_true (is_quoted 34 (take k text)) (λ e. let h : k ≤ n = most.quotes (record { kind = kinds.Str; length = k }) (quoted_found Double k text low e) in absurd (omega arith)))
+    (not_true (is_punctuator (take k text)) (λ e. let h : k ≤ punctuator_length text = punctuator_within k text low e in let m : punctuator_length text ≤ n = most.punctuators in absurd (omega arith)))
+    (not_true (is_one (take k text)) (λ e. let h : k ≤ 1 = one_within k text low e in let m : 1 ≤ n = most.one in absurd (omega arith)))
 
 pub longest_is : (test : List ℕ → Bool) (n m : ℕ) (text : List ℕ) → 0 < n → n ≤ m → test (take n text) ≡ true → ((k : ℕ) → n < k → k ≤ m → test (take k text) ≡ false) → longest test m text ≡ n
 longest_is test n zero text some low e none = absurd (omega arith)
@@ -94,24 +95,24 @@ literal_kind text found Double e low names numbers kind quoted =
     let n : is_name (take found.length text) ≡ false = not_true (is_name (take found.length text)) (λ f. let h : found.length ≤ name_length text = name_within found.length text low f in absurd (omega arith)) in
     let u : is_number (take found.length text) ≡ false = not_true (is_number (take found.length text)) (λ f. let h : found.length ≤ number_length text = number_length_within found.length text low f in absurd (omega arith)) in
     let s : is_quoted 39 (take found.length text) ≡ false = not_true (is_quoted 39 (take found.length text)) (λ f.
-      let h : quoted_at text ≡ literal Single found.length = quoted_found Single found.length text low f in
-      let same : found ≡ record { kind = kinds.Char; length = found.length } = same_found found (record { kind = kinds.Char; length = found.length }) (sym e ∙ h) in
-      let other : found.kind ≡ kinds.Char = ap (λ (x : Found). x.kind) same in
-      absurd (let no : kinds.Str ≡ kinds.Char = sym kind ∙ other in cc)) in
+    let h : quoted_at text ≡ literal Single found.length = quoted_found Single found.length text low f in
+    let same : found ≡ record { kind = kinds.Char; length = found.length } = same_found found (record { kind = kinds.Char; length = found.length }) (sym e ∙ h) in
+    let other : found.kind ≡ kinds.Char = ap (λ (x : Found). x.kind) same in
+    absurd (let no : kinds.Str ≡ kinds.Char = sym kind ∙ other in cc)) in
     rw (n, u, s, quoted, kind) refl
 
 literal_longest : (text : List ℕ) (found : Found) → quoted_at text ≡ Some found → found.length ≤ length text → found ≡ longest_token text
 literal_longest text found e low =
     let is = literal_at text found e in
     longest_token_is text found.length found.kind (let s : 1 < found.length = is.some in omega arith) low
-      (literal_kind text found is.quote e low is.names is.numbers is.kind is.quoted)
-      (record {
-        names = (let h : name_length text < found.length = is.names in omega arith);
-        numbers = (let h : number_length text < found.length = is.numbers in omega arith);
-        punctuators = (let h : punctuator_length text < found.length = is.punctuators in omega arith);
-        one = (let h : 1 < found.length = is.some in omega arith);
-        quotes = λ other f. (let same : other ≡ found = same_found other found (sym f ∙ e) in let h : other.length ≡ found.length = ap (λ (x : Found). x.length) same in omega arith);
-      })
+    (literal_kind text found is.quote e low is.names is.numbers is.kind is.quoted)
+    (record {
+      names = (let h : name_length text < found.length = is.names in omega arith);
+      numbers = (let h : number_length text < found.length = is.numbers in omega arith);
+      punctuators = (let h : punctuator_length text < found.length = is.punctuators in omega arith);
+      one = (let h : 1 < found.length = is.some in omega arith);
+      quotes = λ other f. (let same : other ≡ found = same_found other found (sym f ∙ e) in let h : other.length ≡ found.length = ap (λ (x : Found). x.length) same in omega arith);
+    })
 
 some_test : (n : ℕ) → (suc n == 0) ≡ false
 some_test n = not_true (suc n == 0) (λ e. let h : suc n ≡ 0 = eqb-true (suc n) 0 e in absurd (omega arith))
@@ -133,7 +134,7 @@ name_longest c cs none first low =
     let numbers : number_length (c ∷ cs) ≡ 0 = no_number c cs (nondigit_no_digit c first) (nondigit_no_dot c first) in
     let punctuators : punctuator_length (c ∷ cs) ≡ 0 = no_punctuator c cs (nondigit_starts c first) in
     longest_token_is (c ∷ cs) (name_length (c ∷ cs)) kinds.Name some low (rw (name_prefix (c ∷ cs) some) refl)
-      (record { names = omega arith; numbers = omega arith; punctuators = omega arith; one = omega arith; quotes = no_quotes (c ∷ cs) (name_length (c ∷ cs)) none })
+    (record { names = omega arith; numbers = omega arith; punctuators = omega arith; one = omega arith; quotes = no_quotes (c ∷ cs) (name_length (c ∷ cs)) none })
 
 number_longest : (c : ℕ) (cs : List ℕ) → quoted_at (c ∷ cs) ≡ None → is_nondigit c ≡ false → 0 < number_length (c ∷ cs) → number_length (c ∷ cs) ≤ length (c ∷ cs) → (let it : Found = record { kind = kinds.Number; length = number_length (c ∷ cs) } in it) ≡ longest_token (c ∷ cs)
 unfolding kind_of
@@ -142,7 +143,7 @@ number_longest c cs none first some low =
     let punctuators : punctuator_length (c ∷ cs) ≤ number_length (c ∷ cs) = number_beats c cs some in
     let n : is_name (take (number_length (c ∷ cs)) (c ∷ cs)) ≡ false = not_true (is_name (take (number_length (c ∷ cs)) (c ∷ cs))) (λ f. let h : number_length (c ∷ cs) ≤ name_length (c ∷ cs) = name_within (number_length (c ∷ cs)) (c ∷ cs) low f in absurd (omega arith)) in
     longest_token_is (c ∷ cs) (number_length (c ∷ cs)) kinds.Number some low (rw (n, number_length_prefix (c ∷ cs) some) refl)
-      (record { names = omega arith; numbers = omega arith; punctuators = punctuators; one = omega arith; quotes = no_quotes (c ∷ cs) (number_length (c ∷ cs)) none })
+    (record { names = omega arith; numbers = omega arith; punctuators = punctuators; one = omega arith; quotes = no_quotes (c ∷ cs) (number_length (c ∷ cs)) none })
 
 unquoted : (quote : Quote) (k : ℕ) (text : List ℕ) → quoted_at text ≡ None → k ≤ length text → is_quoted (character_of quote) (take k text) ≡ false
 unquoted quote k text none low = not_true (is_quoted (character_of quote) (take k text)) (λ e. let h : quoted_at text ≡ literal quote k = quoted_found quote k text low e in absurd (cc))
@@ -154,7 +155,7 @@ punctuator_longest c cs none first numbers some low =
     let n : is_name (take (punctuator_length (c ∷ cs)) (c ∷ cs)) ≡ false = not_true (is_name (take (punctuator_length (c ∷ cs)) (c ∷ cs))) (λ f. let h : punctuator_length (c ∷ cs) ≤ name_length (c ∷ cs) = name_within (punctuator_length (c ∷ cs)) (c ∷ cs) low f in absurd (omega arith)) in
     let u : is_number (take (punctuator_length (c ∷ cs)) (c ∷ cs)) ≡ false = not_true (is_number (take (punctuator_length (c ∷ cs)) (c ∷ cs))) (λ f. let h : punctuator_length (c ∷ cs) ≤ number_length (c ∷ cs) = number_length_within (punctuator_length (c ∷ cs)) (c ∷ cs) low f in absurd (omega arith)) in
     longest_token_is (c ∷ cs) (punctuator_length (c ∷ cs)) kinds.Punct some low (rw (n, u, unquoted Single (punctuator_length (c ∷ cs)) (c ∷ cs) none low, unquoted Double (punctuator_length (c ∷ cs)) (c ∷ cs) none low, punctuator_prefix (c ∷ cs) some) refl)
-      (record { names = omega arith; numbers = omega arith; punctuators = omega arith; one = omega arith; quotes = no_quotes (c ∷ cs) (punctuator_length (c ∷ cs)) none })
+    (record { names = omega arith; numbers = omega arith; punctuators = omega arith; one = omega arith; quotes = no_quotes (c ∷ cs) (punctuator_length (c ∷ cs)) none })
 
 one_longest : (c : ℕ) (cs : List ℕ) → quoted_at (c ∷ cs) ≡ None → is_nondigit c ≡ false → number_length (c ∷ cs) ≡ 0 → punctuator_length (c ∷ cs) ≡ 0 → is_blank c ≡ false → (c == 10) ≡ false → (let it : Found = record { kind = kinds.Other; length = 1 } in it) ≡ longest_token (c ∷ cs)
 unfolding kind_of is_one
@@ -167,7 +168,7 @@ one_longest c cs none first numbers punctuators blank ends =
     let s : is_quoted 39 (c ∷ []) ≡ false = unquoted Single 1 (c ∷ cs) none low in
     let d : is_quoted 34 (c ∷ []) ≡ false = unquoted Double 1 (c ∷ cs) none low in
     longest_token_is (c ∷ cs) 1 kinds.Other (omega arith) low (rw (n, u, s, d, p, blank, ends) refl)
-      (record { names = omega arith; numbers = omega arith; punctuators = omega arith; one = omega arith; quotes = no_quotes (c ∷ cs) 1 none })
+    (record { names = omega arith; numbers = omega arith; punctuators = omega arith; one = omega arith; quotes = no_quotes (c ∷ cs) 1 none })
 
 unnamed_longest : (c : ℕ) (cs : List ℕ) (numbers punctuators : ℕ) → quoted_at (c ∷ cs) ≡ None → is_nondigit c ≡ false → is_blank c ≡ false → (c == 10) ≡ false → number_length (c ∷ cs) ≡ numbers → punctuator_length (c ∷ cs) ≡ punctuators → (plain (c ∷ cs)).length ≤ length (c ∷ cs) → plain (c ∷ cs) ≡ longest_token (c ∷ cs)
 unfolding plain
@@ -175,12 +176,12 @@ unnamed_longest c cs zero zero none first blank ends u p low =
     rw (no_name c cs first, u, p) (one_longest c cs none first u p blank ends)
 unnamed_longest c cs zero (suc k) none first blank ends u p low =
     let is : plain (c ∷ cs) ≡ record { kind = kinds.Punct; length = punctuator_length (c ∷ cs) } =
-      rw (no_name c cs first, u) (first_some (punctuator_length (c ∷ cs)) kinds.Punct (record { kind = kinds.Other; length = 1 }) (omega (arith, p))) in
+    rw (no_name c cs first, u) (first_some (punctuator_length (c ∷ cs)) kinds.Punct (record { kind = kinds.Other; length = 1 }) (omega (arith, p))) in
     let short : punctuator_length (c ∷ cs) ≤ length (c ∷ cs) = subst (λ (f : Found). f.length ≤ length (c ∷ cs)) is low in
     is ∙ punctuator_longest c cs none first u (omega (arith, p)) short
 unnamed_longest c cs (suc k) punctuators none first blank ends u p low =
     let is : plain (c ∷ cs) ≡ record { kind = kinds.Number; length = number_length (c ∷ cs) } =
-      rw (no_name c cs first) (first_some (number_length (c ∷ cs)) kinds.Number (first_found (punctuator_length (c ∷ cs)) kinds.Punct (record { kind = kinds.Other; length = 1 })) (omega (arith, u))) in
+    rw (no_name c cs first) (first_some (number_length (c ∷ cs)) kinds.Number (first_found (punctuator_length (c ∷ cs)) kinds.Punct (record { kind = kinds.Other; length = 1 })) (omega (arith, u))) in
     let short : number_length (c ∷ cs) ≤ length (c ∷ cs) = subst (λ (f : Found). f.length ≤ length (c ∷ cs)) is low in
     is ∙ number_longest c cs none first (omega (arith, u)) short
 
@@ -195,9 +196,13 @@ plain_longest c cs none blank ends low = elim (is_nondigit c) as (λ b. is_nondi
 ] refl
 
 -- the token in front is the longest
-pub front_longest : (c : ℕ) (cs : List ℕ) → is_blank c ≡ false → (c == 10) ≡ false → (front (c ∷ cs)).length ≤ length (c ∷ cs) → front (c ∷ cs) ≡ longest_token (c ∷ cs)
+front_longest_of : (c : ℕ) (cs : List ℕ) → is_blank c ≡ false → (c == 10) ≡ false → (front (c ∷ cs)).length ≤ length (c ∷ cs) → front (c ∷ cs) ≡ longest_token (c ∷ cs)
 unfolding front plain
-front_longest c cs blank ends low = elim (quoted_at (c ∷ cs)) as (λ o. quoted_at (c ∷ cs) ≡ o → or_plain (quoted_at (c ∷ cs)) (c ∷ cs) ≡ longest_token (c ∷ cs)) [
+front_longest_of c cs blank ends low = elim (quoted_at (c ∷ cs)) as (λ o. quoted_at (c ∷ cs) ≡ o → or_plain (quoted_at (c ∷ cs)) (c ∷ cs) ≡ longest_token (c ∷ cs)) [
   | Some found ↦ λ e. rw e (literal_longest (c ∷ cs) found e (let h : (or_plain (Some found) (c ∷ cs)).length ≤ length (c ∷ cs) = (rw e at low) in h))
   | None ↦ λ e. rw e (plain_longest c cs e blank ends (let h : (plain (c ∷ cs)).length ≤ length (c ∷ cs) = (rw e at low) in h))
 ] refl
+
+pub front_longest : (text : List ℕ) → IsMark text → (front text).length ≤ length text → front text ≡ longest_token text
+front_longest [] mark low = absurd (let some : 0 < length (let none : List ℕ = [] in none) = mark.some in omega arith)
+front_longest (c ∷ cs) mark low = front_longest_of c cs mark.no_blank mark.no_end low

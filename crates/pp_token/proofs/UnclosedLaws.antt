@@ -1,13 +1,12 @@
 -- A quote that isn't closed on its line leaves each later one like it unclosed there.
-use Rattle.std.proofs.Common.{◌≡◌, ℕ, zero, suc, ◌+◌, ◌==◌, ◌⊎◌, Bool, true, false, ◌&&◌, ◌||◌, not, cond, List, [], ◌∷◌, ◌++◌, Option, Some, None, refl, sym, ap, ◌∙◌, subst, inl, inr}
+use Rattle.std.proofs.Common.{◌≡◌, ℕ, ◌==◌, ◌⊎◌, Bool, true, false, ◌||◌, cond, List, [], ◌∷◌, ◌++◌, Option, Some, None, refl, sym, ap, subst, inl, inr}
 use Rattle.std.specs.List.{list_any}
 use Rattle.std.proofs.lemmas.Bool.{eqb-true, eq-eqb}
-use Rattle.pp_token.specs.declared.spelling.Found.{Found}
 use Rattle.pp_token.specs.declared.spelling.Quote.{Quote}
 use Rattle.pp_token.specs.declared.spelling.Quote.TheVariants.{Single, Double}
 use Rattle.pp_token.specs.declared.spelling.Opening.{Opening}
 use Rattle.pp_token.specs.declared.piece.Unclosed.{Unclosed}
-use Rattle.pp_token.specs.Scanning.{further, closing, quote_of, character_of, with_opening, opening_at, with_length, quoted, quoted_from, quoted_at}
+use Rattle.pp_token.specs.Scanning.{further, closing, quote_of, character_of, with_opening, opening_at, with_length, quoted, quoted_at}
 use Rattle.pp_token.specs.Stepping.{AllOpen, Knows, is_marked, marked}
 
 further_none : (n : ℕ) (o : Option ℕ) → further n o ≡ None → o ≡ None

@@ -118,3 +118,19 @@ unfoldable pub longest_token : List ℕ → Found
 longest_token text =
     let n = longest is_token (length text) text in
     record { kind = unwrap_or (kind_of (take n text)) kinds.Other; length = n }
+
+-- characters of one line with this delimiter at their end and nowhere before; one stands before it at least
+abbrev pub is_delimited : ℕ → Bool → List ℕ → Bool
+is_delimited close some [] = false
+is_delimited close some (c ∷ cs) = if c == 10 then false else (if c == close then some && is_empty cs else is_delimited close true cs)
+
+-- a header name (C90 6.1.7)
+unfoldable pub is_header : List ℕ → Bool
+is_header [] = false
+is_header (c ∷ cs) = (c == 60 && is_delimited 62 false cs) || (c == 34 && is_delimited 34 false cs)
+
+-- the longest header name at the front of a text
+unfoldable pub longest_header : List ℕ → Option Found
+longest_header text =
+    let n = longest is_header (length text) text in
+    if n == 0 then None else Some (record { kind = kinds.Header; length = n })
