@@ -1,5 +1,5 @@
 -- Tokens of a list of preprocessing tokens, and the rules that it breaks: phases 5 to 7 (C90 5.1.1.2).
-use Rattle.std.specs.Prelude.{◌≡◌, ℕ, ◌+◌, ◌-◌, ◌^◌, ◌<◌, ◌≤◌, ◌⊎◌, List, [], ◌∷◌, ◌++◌, length, map, take, drop, slice_index, Bool, true, false, ◌==◌, Option, Some, None, Result, Ok, Err, MatchOption, unwrap_or}
+use Rattle.std.specs.Prelude.{◌≡◌, ℕ, ◌-◌, ◌^◌, ◌<◌, ◌≤◌, ◌⊎◌, List, [], ◌∷◌, ◌++◌, length, map, take, drop, slice_index, Bool, true, false, ◌==◌, Option, Some, None, MatchOption, unwrap_or}
 use Rattle.fsc_base.specs.declared.place.Place.{Place}
 use Rattle.fsc_base.specs.declared.place.Broken.{Broken}
 use Rattle.fsc_base.specs.declared.rule.Rule.{Rule}
