@@ -1,5 +1,6 @@
 -- Taking preprocessing tokens one after the other.
-use Rattle.std.proofs.Common.{◌≡◌, ℕ, suc, ◌+◌, ◌<◌, ◌≤◌, ◌⊎◌, List, [], ◌∷◌, ◌++◌, length, drop, get_or, Option, Some, None, inl, inr, refl, sym, ap, subst, ◌∙◌, append_assoc, arith}
+use Rattle.std.proofs.Common.{◌≡◌, ℕ, suc, ◌+◌, ◌<◌, ◌≤◌, ◌⊎◌, List, [], ◌∷◌, ◌++◌, length, drop, get_or, Option, Some, None, Result, Ok, Err, inl, inr, refl, sym, ap, subst, ◌∙◌, append_assoc, arith}
+use Rattle.std.specs.Prelude.{IfOk}
 use Rattle.std.proofs.lemmas.List.{append-nil}
 use Rattle.std.proofs.Math.ListN.{drop_of_length-le}
 use Rattle.std.proofs.Math.Seq.{drop-cons}
@@ -20,7 +21,7 @@ use Rattle.c_lexer.specs.declared.token.Token.{Token}
 use Rattle.c_lexer.specs.Keywords.{keyword_of}
 use Rattle.c_lexer.specs.Numbers.{Integer, integer_of}
 use Rattle.c_lexer.specs.Punctuators.{punctuator_of}
-use Rattle.c_lexer.specs.Lexing.{named, numbered, punctuated, kind_of, string_of, string_at, joined_with, joined, with_token, tokens_of, Has, IsLong, HasBreak, HasLong, Lexed}
+use Rattle.c_lexer.specs.Lexing.{named, numbered, punctuated, kind_of, string_of, string_at, joined_with, joined, with_token, tokens_of, Has, IsLong, HasBreak, HasLong, Lexed, EndsWith, IsPpEnd, IsEnd}
 use Rattle.c_lexer.specs.Answers.{IsUnbroken, IsBreak, IsSingle, IsRefusal, IsBegun, behind, whole, AreShort, IsLongAt, Took, Stops, finished}
 use Rattle.c_lexer.proofs.RowLaws.{unbroken}
 
@@ -262,3 +263,51 @@ ends_early_at list items i token old refused same lt is so_far stops =
 pub all_taken : (list items : List PpToken) (i : ℕ) (lexer : Lexer) → items ≡ list → length items ≤ i → SoFar list (drop i list) lexer → SoFar list [] lexer
 all_taken list items i lexer same le so_far =
     subst (λ (rest : List PpToken). SoFar list rest lexer) (drop_of_length-le list (rw (← same) le)) so_far
+
+-- ---- the last token
+
+ends_cons : {X : Type 0} (P : X → Type 0) (x : X) (xs : List X) → EndsWith P xs → EndsWith P (x ∷ xs)
+ends_cons P x xs ends = (x ∷ ends.0, ends.1, ap (λ ys. x ∷ ys) ends.2, ends.3)
+
+joined_ends : (bytes : List ℕ) (place : Place) (front : List Token) (last : Token) → IsEnd last → EndsWith IsEnd (joined bytes place (front ++ last ∷ []))
+joined_ends bytes place [] last is =
+    let apart : joined bytes place (last ∷ []) ≡ string_at bytes place ∷ last ∷ [] = rw is refl in (string_at bytes place ∷ [], last, apart, is)
+joined_ends bytes place (next ∷ front) last is = by next.kind
+  where
+    plain : EndsWith IsEnd (string_at bytes place ∷ next ∷ (front ++ last ∷ []))
+    plain = (string_at bytes place ∷ next ∷ front, last, refl, is)
+    by : (kind : TokenKind) → EndsWith IsEnd (joined_with bytes place kind next (front ++ last ∷ []))
+    by (Name n) = plain
+    by (Keyword k) = plain
+    by (Int v t) = plain
+    by (Char v) = plain
+    by (Str more) = (string_at (bytes ++ more) place ∷ front, last, refl, is)
+    by (Punct s) = plain
+    by End = plain
+
+with_token_ends : (kind : PpKind) (token : PpToken) (rest : List Token) → EndsWith IsEnd rest → EndsWith IsEnd (with_token kind token rest)
+with_token_ends pp.Header token rest ends = ends_cons IsEnd _ rest ends
+with_token_ends pp.Name token rest ends = ends_cons IsEnd _ rest ends
+with_token_ends pp.Number token rest ends = ends_cons IsEnd _ rest ends
+with_token_ends pp.Char token rest ends = ends_cons IsEnd _ rest ends
+with_token_ends pp.Str token rest ends =
+    subst (λ (ts : List Token). EndsWith IsEnd (joined (string_of token.text) token.place ts)) (sym ends.2) (joined_ends (string_of token.text) token.place ends.0 ends.1 ends.3)
+with_token_ends pp.Punct token rest ends = ends_cons IsEnd _ rest ends
+with_token_ends pp.Other token rest ends = ends_cons IsEnd _ rest ends
+with_token_ends pp.LineEnd token rest ends = ends
+with_token_ends pp.End token rest ends = ends_cons IsEnd _ rest ends
+
+last_is_end : (front : List PpToken) (last : PpToken) → last.kind ≡ pp.End → EndsWith IsEnd (tokens_of (front ++ last ∷ []))
+last_is_end [] last is = rw is ([], record { kind = End; place = last.place }, refl, refl)
+last_is_end (token ∷ front) last is = with_token_ends token.kind token (tokens_of (front ++ last ∷ [])) (last_is_end front last is)
+
+pub tokens_end : (list : List PpToken) (tokens : List Token) → Lexed list tokens → EndsWith IsPpEnd list → EndsWith IsEnd tokens
+tokens_end list tokens lexed ends =
+    subst (EndsWith IsEnd) (sym lexed.are) (subst (λ (ts : List PpToken). EndsWith IsEnd (tokens_of ts)) (sym ends.2) (last_is_end ends.0 ends.1 ends.3))
+
+pub all_end : (list : List PpToken) (r : Result (List Token) Refused) → IfOk r (λ tokens. Lexed list tokens) → EndsWith IsPpEnd list → IfOk r (λ tokens. EndsWith IsEnd tokens)
+all_end list (Ok tokens) lexed ends = tokens_end list tokens lexed ends
+all_end list (Err refused) lexed ends = lexed
+
+pub one_list : (list : List PpToken) (tokens others : List Token) → Lexed list tokens → Lexed list others → tokens ≡ others
+one_list list tokens others a b = a.are ∙ sym b.are

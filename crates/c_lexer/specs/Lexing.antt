@@ -151,3 +151,14 @@ IsBroken list broken = HasBreak broken list ⊎ HasLong broken (tokens_of list)
 pub record Lexed (list : List PpToken) (tokens : List Token) : Type 0 where
   pub are : tokens ≡ tokens_of list
   pub unbroken : (broken : Broken) → IsBroken list broken → ⊥
+
+-- there is a last element, and it is so
+abbrev pub EndsWith : {X : Type 0} → (X → Type 0) → List X → Type 0
+EndsWith {X} P xs = (front : List X) × (last : X) × (xs ≡ front ++ last ∷ []) × P last
+
+-- the end of a unit, before and after
+abbrev pub IsPpEnd : PpToken → Type 0
+IsPpEnd token = token.kind ≡ pp.End
+
+abbrev pub IsEnd : Token → Type 0
+IsEnd token = token.kind ≡ End
