@@ -1,5 +1,5 @@
 -- Reading the characters of a literal one after the other.
-use Rattle.std.proofs.Common.{◌≡◌, ℕ, zero, suc, ◌+◌, ◌-◌, ◌<◌, ◌≤◌, List, [], ◌∷◌, ◌++◌, length, map, take, drop, get_or, min, Bool, ◌==◌, true, false, cond, Option, Some, None, inl, inr, refl, sym, ap, subst, ◌∙◌, append_assoc, length-drop, arith}
+use Rattle.std.proofs.Common.{◌≡◌, ℕ, zero, suc, ◌-◌, ◌<◌, ◌≤◌, List, [], ◌∷◌, ◌++◌, length, map, take, drop, get_or, min, Bool, ◌==◌, true, false, cond, Option, Some, inl, inr, refl, sym, ap, subst, ◌∙◌, append_assoc, length-drop, arith}
 use Rattle.std.proofs.lemmas.List.{take_all, append-nil}
 use Rattle.std.specs.Char.{is_digit}
 use Rattle.c_lexer.specs.Numbers.{count_of}
@@ -80,7 +80,7 @@ adds_one old new text rest byte behind added some small is =
     record {
       is = append_assoc new (byte ∷ []) (map byte_of (values_of behind)) ∙ ap (λ vs. new ++ map byte_of vs) (sym values) ∙ added.is;
       down = λ bad. added.down (subst (Has IsBad) (sym values) (inr bad));
-      up = λ bad. has_rest byte (values_of behind) small (subst (Has IsBad) values (added.up bad))
+      up = λ bad. has_rest byte (values_of behind) small (subst (Has IsBad) values (added.up bad));
     }
 
 pub is_bad : (old new text rest : List ℕ) → Added old new text rest → 0 < length rest → IsBad (character (get_or rest 0 0) (others rest)).value → Has IsBad (values_of text)

@@ -1,5 +1,5 @@
 -- Which tokens break a rule, kind by kind.
-use Rattle.std.proofs.Common.{◌≡◌, ℕ, ◌-◌, ◌^◌, ◌<◌, ◌≤◌, List, [], ◌∷◌, ◌++◌, length, map, get_or, Bool, true, false, Option, Some, None, Result, Ok, Err, inl, inr, refl, sym, ap, subst, ◌∙◌, arith}
+use Rattle.std.proofs.Common.{◌≡◌, ℕ, ◌^◌, ◌<◌, ◌≤◌, List, [], ◌∷◌, ◌++◌, length, map, get_or, true, false, Option, Some, Result, Ok, Err, inl, inr, refl, sym, ap, subst, ◌∙◌, arith}
 use Rattle.std.specs.Prelude.{MatchOption, unwrap_or}
 use Rattle.std.proofs.lemmas.Bool.{true≢false}
 use Rattle.std.proofs.lemmas.Option.{none-some}
@@ -7,7 +7,7 @@ use Rattle.fsc_base.specs.declared.place.Place.{Place}
 use Rattle.fsc_base.specs.declared.place.Refused.{Refused}
 use Rattle.fsc_base.specs.declared.place.Refused.TheVariants as refusals
 use Rattle.fsc_base.specs.declared.rule.Rule.{Rule}
-use Rattle.fsc_base.specs.declared.rule.Rule.TheVariants.{K44, K45, L01, L04, L06}
+use Rattle.fsc_base.specs.declared.rule.Rule.TheVariants.{K45, L06}
 use Rattle.pp_token.specs.declared.token.PpKind.{PpKind}
 use Rattle.pp_token.specs.declared.token.PpKind.TheVariants as pp
 use Rattle.c_lexer.specs.declared.token.BasicType.{BasicType}
@@ -15,8 +15,8 @@ use Rattle.c_lexer.specs.declared.token.BasicType.TheVariants.{UnsignedLong}
 use Rattle.c_lexer.specs.declared.token.TokenKind.{TokenKind}
 use Rattle.c_lexer.specs.declared.token.TokenKind.TheVariants.{Char, Int}
 use Rattle.c_lexer.specs.Numbers.{Integer, integer_of, value_of, candidates, first_fitting}
-use Rattle.c_lexer.specs.Characters.{Read, read_as, character, values_of, IsBad, byte_of}
-use Rattle.c_lexer.specs.Lexing.{is_wide, quoted, characters_of, string_of, first_byte, numbered, kind_of, Has, IsNoToken, HasBadEscape, IsFloating, IsTooLarge, IsWideOrSeveral, Breaks}
+use Rattle.c_lexer.specs.Characters.{read_as, character, values_of, IsBad, byte_of}
+use Rattle.c_lexer.specs.Lexing.{is_wide, quoted, characters_of, first_byte, numbered, kind_of, Has, IsNoToken, HasBadEscape, IsFloating, IsTooLarge, IsWideOrSeveral, Breaks}
 use Rattle.c_lexer.specs.Answers.{IsUnbroken, IsKind, Becomes, located, AddsCharacters, AddsString}
 use Rattle.c_lexer.proofs.FloatingLaws.{not_floating}
 use Rattle.c_lexer.proofs.CharacterLaws.{others, values_first, values_some}

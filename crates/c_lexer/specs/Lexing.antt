@@ -1,5 +1,5 @@
 -- Tokens of a list of preprocessing tokens, and the rules that it breaks: phases 5 to 7 (C90 5.1.1.2).
-use Rattle.std.specs.Prelude.{◌≡◌, ℕ, ◌+◌, ◌-◌, ◌^◌, ◌<◌, ◌≤◌, ◌⊎◌, List, [], ◌∷◌, ◌++◌, length, map, take, drop, slice_index, Bool, true, false, ◌==◌, Option, Some, None, Result, Ok, Err, MatchOption, unwrap_or}
+use Rattle.std.specs.Prelude.{◌≡◌, ℕ, ◌-◌, ◌^◌, ◌<◌, ◌≤◌, ◌⊎◌, List, [], ◌∷◌, ◌++◌, length, map, take, drop, slice_index, Bool, true, false, ◌==◌, Option, Some, None, MatchOption, unwrap_or}
 use Rattle.fsc_base.specs.declared.place.Place.{Place}
 use Rattle.fsc_base.specs.declared.place.Broken.{Broken}
 use Rattle.fsc_base.specs.declared.rule.Rule.{Rule}
@@ -151,3 +151,14 @@ IsBroken list broken = HasBreak broken list ⊎ HasLong broken (tokens_of list)
 pub record Lexed (list : List PpToken) (tokens : List Token) : Type 0 where
   pub are : tokens ≡ tokens_of list
   pub unbroken : (broken : Broken) → IsBroken list broken → ⊥
+
+-- there is a last element, and it is so
+abbrev pub EndsWith : {X : Type 0} → (X → Type 0) → List X → Type 0
+EndsWith {X} P xs = (front : List X) × (last : X) × (xs ≡ front ++ last ∷ []) × P last
+
+-- the end of a unit, before and after
+abbrev pub IsPpEnd : PpToken → Type 0
+IsPpEnd token = token.kind ≡ pp.End
+
+abbrev pub IsEnd : Token → Type 0
+IsEnd token = token.kind ≡ End

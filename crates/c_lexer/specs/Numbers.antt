@@ -1,5 +1,5 @@
 -- Integer and floating constants (C90 6.1.3.1 and 6.1.3.2).
-use Rattle.std.specs.Prelude.{◌≡◌, ℕ, ◌+◌, ◌-◌, ◌^◌, ◌≤◌, List, [], ◌∷◌, length, take, drop, slice_index, Bool, true, false, ◌&&◌, ◌||◌, ◌==◌, nat_lt, nat_le, if◌then◌else◌, Option, Some, None, option_map, find}
+use Rattle.std.specs.Prelude.{ℕ, List, [], ◌∷◌, take, drop, slice_index, Bool, true, false, ◌&&◌, ◌||◌, ◌==◌, nat_lt, nat_le, if◌then◌else◌, Option, Some, None, option_map, find}
 use Rattle.std.specs.List.{prefix_len}
 use Rattle.std.specs.Char.{is_digit, is_ascii_digit}
 use Rattle.std.specs.Str.Parse.{digits_value}

@@ -1,5 +1,5 @@
 -- What functions that read a part of a text give.
-use Rattle.std.specs.Prelude.{◌≡◌, ℕ, ◌<◌, List, Option, Some, Result, Ok, Err}
+use Rattle.std.specs.Prelude.{◌≡◌, ℕ, ◌<◌, List, Result, Ok, Err}
 use Rattle.fsc_base.specs.declared.rule.Rule.{Rule}
 use Rattle.fsc_base.specs.declared.rule.Rule.TheVariants.{K45}
 use Rattle.c_lexer.specs.Characters.{Read, read_as, IsBad}

@@ -81,5 +81,9 @@ pub fn character(first: u8, rest: &[u8]) -> Result<(u8, &[u8]), Rule>
     ensures read { Reads (λ text. text.now) result (character first rest.now) }
     ensures shorter { IfOk result (λ read. length read.1.now ≤ length rest.now) }
 {
-    if first == b'\\' { escape(rest) } else { Ok((first, rest)) }
+    if first == b'\\' {
+        escape(rest)
+    } else {
+        Ok((first, rest))
+    }
 }

@@ -30,7 +30,11 @@ fn skip_exponent(text: &[u8]) -> Option<&[u8]>
     };
     let digits = skip_sign(rest);
     let count = count_decimals(digits);
-    if count == 0 { None } else { Some(&digits[count..]) }
+    if count == 0 {
+        None
+    } else {
+        Some(&digits[count..])
+    }
 }
 
 /// Whether all of `text` is a suffix of a floating constant.

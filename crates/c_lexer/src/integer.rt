@@ -97,7 +97,9 @@ fn count_digits(base: u32, text: &[u8]) -> usize
     ensures count { result ≡ count_of base text.now }
     ensures within { result ≤ length text.now }
 {
-    text.iter().take_while(|c| char::from(**c).is_digit(base)).count()
+    text.iter()
+        .take_while(|c| char::from(**c).is_digit(base))
+        .count()
 }
 
 /// The digits to a base at the front of `text`, as many as there are, and the text behind them.
@@ -115,7 +117,9 @@ fn with_digit(number: u32, base: u32, digit: u8) -> Option<u32>
     requires digit { digit_value digit < base }
     ensures { SomeIff result (number * base + digit_value digit < 2 ^ 32) (number * base + digit_value digit) }
 {
-    number.checked_mul(base)?.checked_add(char::from(digit).to_digit(base)?)
+    number
+        .checked_mul(base)?
+        .checked_add(char::from(digit).to_digit(base)?)
 }
 
 /// The number that digits to a base write, None where it is 2^32 or more.
@@ -162,9 +166,18 @@ pub fn candidates(radix: Radix, suffix: Suffix) -> &'static [BasicType]
     ensures { result.now ≡ candidates radix suffix }
 {
     match (suffix, radix) {
-        (Suffix::Absent, Radix::Decimal) => &[BasicType::Int, BasicType::Long, BasicType::UnsignedLong],
+        (Suffix::Absent, Radix::Decimal) => &[
+            BasicType::Int,
+            BasicType::Long,
+            BasicType::UnsignedLong,
+        ],
         (Suffix::Absent, Radix::Octal | Radix::Hexadecimal) => {
-            &[BasicType::Int, BasicType::Unsigned, BasicType::Long, BasicType::UnsignedLong]
+            &[
+                BasicType::Int,
+                BasicType::Unsigned,
+                BasicType::Long,
+                BasicType::UnsignedLong,
+            ]
         }
         (Suffix::OnlyUnsigned, _) => &[BasicType::Unsigned, BasicType::UnsignedLong],
         (Suffix::OnlyLong, _) => &[BasicType::Long, BasicType::UnsignedLong],
@@ -176,5 +189,8 @@ pub fn candidates(radix: Radix, suffix: Suffix) -> &'static [BasicType]
 pub fn first_fitting(value: u32, types: &[BasicType]) -> Option<BasicType>
     ensures { result ≡ first_fitting value types.now }
 {
-    types.iter().copied().find(|basic| value <= basic.greatest())
+    types
+        .iter()
+        .copied()
+        .find(|basic| value <= basic.greatest())
 }

@@ -1,15 +1,18 @@
 //! Tokens from a unit after phase 4: phases 5 to 7 (C90 5.1.1.2).
 
-ghost use Rattle.std.specs.Prelude.{◌≡◌, ◌++◌, IfOk, IfErr, None};
+ghost use Rattle.std.specs.Prelude.{◌≡◌, List, IfOk, IfErr, None};
 ghost use Rattle.c_lexer.specs.Answers.{Finishes, IsBegun, IsRefusal, IsSingle, Takes};
+ghost use Rattle.fsc_base.specs.declared.place.Broken.{Broken};
 ghost use Rattle.pp_token.specs.declared.token.PpKind.TheVariants as pp;
-ghost use Rattle.c_lexer.specs.Lexing.{Lexed};
+ghost use Rattle.pp_token.specs.declared.token.PpToken.{PpToken};
+ghost use Rattle.c_lexer.specs.declared.token.Token.{Token};
+ghost use Rattle.c_lexer.specs.Lexing.{EndsWith, IsBroken, IsEnd, IsPpEnd, Lexed};
 
 use crate::literal::{add_string, broken};
 use crate::single::single_kind;
 use crate::token::{Token, TokenKind, Tokens};
 use fsc_base::{Bytes, Place, Refused, Rule};
-use pp_token::{PpKind, PpToken, PpUnit};
+use pp_token::{PpKind, PpToken, PpTokens, PpUnit};
 use std::alloc::Global;
 
 /// The most bytes of a string, without its closing zero.
@@ -100,23 +103,41 @@ impl Lexer {
     }
 }
 
-/// The tokens of a unit after phase 4: escapes have their values, adjacent strings are joined, keywords and constants
-/// are told apart, and the ends of lines are gone (C90 5.1.1.2, phases 5 to 7). Refused where a rule is broken, one of
-/// K44, K45, L01, L04 and L06 with its place, and where no memory is left.
-pub fn tokens(alloc: Global, pp: &PpUnit) -> Result<Tokens, Refused>
+/// The tokens of a list of preprocessing tokens: escapes have their values, adjacent strings are joined, keywords and
+/// constants are told apart, and the ends of lines are gone (C90 5.1.1.2, phases 5 to 7). Refused where a rule is
+/// broken, one of K44, K45, L01, L04 and L06 with its place, and where no memory is left.
+pub fn lex(alloc: Global, list: &PpTokens) -> Result<Tokens, Refused>
     // No rule is broken, and these are the tokens.
-    ensures lexed { IfOk result (λ tokens. Lexed pp.now.tokens tokens) }
+    ensures lexed { IfOk result (λ tokens. Lexed list.now tokens) }
     // That rule is broken at that place.
-    ensures broken { IfErr result (λ refused. IsRefusal pp.now.tokens refused) }
+    ensures broken { IfErr result (λ refused. IsRefusal list.now refused) }
 {
     let mut lexer = Lexer {
         alloc,
         done: Vec::new(alloc),
         unfinished: None,
     };
-    for token in pp.tokens.as_slice() {
+    for token in list.as_slice() {
         lexer.take(token)?;
     }
     lexer.finish_string()?;
     Ok(Tokens::from_vec(lexer.done))
 }
+
+/// The tokens of a unit after phase 4, as `lex` makes them of its list. Refused as `lex`.
+pub fn tokens(alloc: Global, pp: &PpUnit) -> Result<Tokens, Refused>
+    // No rule is broken, and these are the tokens.
+    ensures lexed { IfOk result (λ tokens. Lexed pp.now.tokens tokens) }
+    // That rule is broken at that place.
+    ensures broken { IfErr result (λ refused. IsRefusal pp.now.tokens refused) }
+    // The last one is End where the unit's last one is.
+    ensures ends { EndsWith IsPpEnd pp.now.tokens → IfOk result (λ tokens. EndsWith IsEnd tokens) }
+{
+    lex(alloc, &pp.tokens)
+}
+
+/// A list that has tokens breaks no rule, and has these tokens alone.
+pub fn one_meaning()
+    ensures unbroken { (list : List PpToken) (tokens : List Token) → Lexed list tokens → (broken : Broken) → IsBroken list broken → ⊥ }
+    ensures one { (list : List PpToken) (tokens others : List Token) → Lexed list tokens → Lexed list others → tokens ≡ others }
+{}

@@ -12,6 +12,6 @@ mod single;
 mod token;
 
 pub use keyword::{Keyword, read_keyword};
-pub use lexing::tokens;
+pub use lexing::{lex, one_meaning, tokens};
 pub use punctuator::{Punctuator, read_punctuator};
 pub use token::{BasicType, Token, TokenKind, Tokens};

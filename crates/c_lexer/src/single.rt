@@ -46,7 +46,11 @@ fn no_integer(text: &[u8]) -> Rule
     requires { integer_of text.now ≡ None }
     ensures { Breaks result pp.Number text.now }
 {
-    if is_floating_constant(text) { Rule::L01 } else { Rule::K44 }
+    if is_floating_constant(text) {
+        Rule::L01
+    } else {
+        Rule::K44
+    }
 }
 
 /// The operator or punctuator that is spelled so. K44 where there is none, as for `#` and `##`.
@@ -71,7 +75,12 @@ fn located(made: Result<TokenKind, Rule>, place: Place) -> Result<TokenKind, Ref
 
 /// What a preprocessing token becomes that is neither a string nor the end of a line. Refused where it breaks one of
 /// the rules K44, K45, L01, L04 and L06, at its place, and for want of memory.
-pub fn single_kind(alloc: Global, kind: PpKind, text: &[u8], place: Place) -> Result<TokenKind, Refused>
+pub fn single_kind(
+    alloc: Global,
+    kind: PpKind,
+    text: &[u8],
+    place: Place,
+) -> Result<TokenKind, Refused>
     requires { IsSingle kind }
     ensures { Becomes kind text.now place result }
 {

@@ -1,7 +1,5 @@
 use Rattle.std.proofs.Common.{◌≡◌, ◌^◌, ◌<◌, arith}
 use Rattle.std.specs.Prelude.{unwrap_or}
-use Rattle.std.specs.Str.Parse.{digits_value}
-use Rattle.c_lexer.specs.declared.token.BasicType.{BasicType}
 use Rattle.c_lexer.specs.declared.token.BasicType.TheVariants.{UnsignedLong}
 use Rattle.c_lexer.specs.Numbers.{candidates, first_fitting, parts_of, value_of}
 use Rattle.c_lexer.proofs.RowLaws.{number_good}
