@@ -1,0 +1,5 @@
+use Rattle.type_desc.proofs.PlaceLaws.{shape_layout, plane_layout}
+use Rattle.type_desc.proofs.places_are_apart.Goals as goal
+
+pub returns : goal.returns
+returns c = record { shapes = shape_layout; plane = plane_layout }
