@@ -1,12 +1,12 @@
 -- The words of a block stand at their places.
-use Rattle.std.proofs.Common.{◌≡◌, ◌≢◌, ℕ, zero, suc, ◌+◌, ◌-◌, ◌*◌, ◌<◌, ◌≤◌, ◌⊎◌, inl, inr, List, [], ◌∷◌, ◌++◌, length, refl, sym, ap, ◌∙◌, subst, arith, get_or, length-append}
+use Rattle.std.proofs.Common.{◌≡◌, ℕ, zero, suc, ◌+◌, ◌-◌, ◌*◌, ◌<◌, ◌≤◌, inl, inr, List, ◌++◌, length, refl, sym, ap, ◌∙◌, arith, length-append}
 use Rattle.std.specs.Prelude.{slice_index}
 use Rattle.std.proofs.lemmas.Bool.{cases_lt}
 use Rattle.std.proofs.lemmas.List.{get_or_append_left, get_or-append_right}
 use Rattle.std.proofs.lemmas.Grind.{same_number_lists}
 use Rattle.fsc_base.specs.declared.word.WordKind.{WordKind}
-use Rattle.fsc_base.specs.declared.word.WordKind.TheVariants.{Fat, Narrow}
-use Rattle.type_desc.specs.Places.{kind_at, fats_before, narrows_before, placed, value_at, base_at}
+use Rattle.fsc_base.specs.declared.word.WordKind.TheVariants.{Narrow}
+use Rattle.type_desc.specs.Places.{kind_at, narrows_before, value_at, base_at}
 use Rattle.type_desc.specs.Cells.{IsPlaced, front_of, back_of, fronts, backs, placed_of, PlacesEach, PlacedOnce}
 use Rattle.type_desc.proofs.PlaceLaws.{front_end, FatAt, NarrowAt, cases_at, narrow_at, grown, fats_and_narrows, shape_layout}
 

@@ -1,9 +1,9 @@
 -- Values and bases have places of their own.
-use Rattle.std.proofs.Common.{◌≡◌, ◌≢◌, ℕ, zero, suc, ◌+◌, ◌-◌, ◌*◌, ◌<◌, ◌≤◌, ◌⊎◌, inl, inr, List, refl, sym, ap, ◌∙◌, subst, arith}
+use Rattle.std.proofs.Common.{◌≡◌, ◌≢◌, ℕ, zero, suc, ◌+◌, ◌-◌, ◌*◌, ◌<◌, ◌≤◌, ◌⊎◌, inl, inr, List, refl, sym, ap, subst, arith}
 use Rattle.std.proofs.lemmas.Bool.{cases_lt}
 use Rattle.fsc_base.specs.declared.word.WordKind.{WordKind}
 use Rattle.fsc_base.specs.declared.word.WordKind.TheVariants.{Fat, Narrow}
-use Rattle.type_desc.specs.Places.{kind_at, fats_in, narrows_in, fats_before, narrows_before, place_of_kind, placed, value_at, base_at, plane_value_at, plane_base_at, IsLayout, ShapesLayOut, PlaneLaysOut}
+use Rattle.type_desc.specs.Places.{kind_at, fats_before, narrows_before, place_of_kind, placed, value_at, base_at, plane_value_at, plane_base_at, ShapesLayOut, PlaneLaysOut}
 
 -- the index behind what stands in front for the words before w
 abbrev pub front_end : List WordKind → (w : ℕ) → ℕ

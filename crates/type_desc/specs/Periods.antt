@@ -1,5 +1,5 @@
 -- Shapes: lists of kinds of words in their least period.
-use Rattle.std.specs.Prelude.{◌≡◌, ℕ, zero, suc, ◌+◌, ◌-◌, ◌%◌, ◌<◌, ◌≤◌, List, [], ◌++◌, length, take, drop}
+use Rattle.std.specs.Prelude.{◌≡◌, ℕ, zero, suc, ◌-◌, ◌%◌, ◌<◌, ◌≤◌, List, [], ◌++◌, length, take, drop}
 use Rattle.fsc_base.specs.declared.word.WordKind.{WordKind}
 
 -- a list, so many times over
@@ -24,3 +24,10 @@ pub record IsPeriod {A : Type 0} (whole : List A) (n : ℕ) : Type 0 where
   pub some : 0 < n
   pub divides : length whole % n ≡ 0
   pub repeats : drop n whole ≡ take (length whole - n) whole
+
+-- a list of kinds has one least period, and that is a shape
+abbrev pub OneLeastPeriod : Type 0
+OneLeastPeriod = (whole one other : List WordKind) → 0 < length whole → IsLeastPeriod whole one → IsLeastPeriod whole other → one ≡ other
+
+abbrev pub LeastIsShape : Type 0
+LeastIsShape = (whole kinds : List WordKind) → 0 < length whole → length whole ≤ 1024 → IsLeastPeriod whole kinds → IsShape kinds

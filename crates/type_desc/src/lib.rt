@@ -1,20 +1,17 @@
-//! Shapes of blocks.
+//! Shapes of blocks: which of a block's words keep a base beside their value, and where values and bases stand in its
+//! cell.
 #![tactic(auto)]
 
-ghost use Rattle.type_desc.specs.Places.{ShapesLayOut, PlaneLaysOut};
-ghost use Rattle.type_desc.specs.Cells.{PlacesEach, PlacedOnce};
+mod descriptor;
+mod kinds;
+mod laws;
+mod period;
+mod shape;
+mod shapes;
 
-use fsc_base::WordKind;
-
-/// The law of places. The values and bases of a block's words stand at the indices below twice the number of words, each
-/// at one of its own; so do those of the plane layout.
-pub fn places_are_apart()
-    ensures shapes { ShapesLayOut }
-    ensures plane { PlaneLaysOut }
-{}
-
-/// The law of cells. The list of a block's cell words has each value and base at its place, and it is the only one.
-pub fn cells_are_placed()
-    ensures each { PlacesEach }
-    ensures once { PlacedOnce }
-{}
+pub use descriptor::{decode_desc, encode_desc};
+pub use kinds::Kinds;
+pub use laws::{
+    cells_are_placed, descriptors_read_back, places_are_apart, shapes_are_found, shapes_are_least,
+};
+pub use shape::{Shape, place};
