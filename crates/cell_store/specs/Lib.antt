@@ -1,3 +1,6 @@
+pub mod Kept
 pub mod Layouts
+pub mod Making
+pub mod Pools
 pub mod StandsFor
 pub mod Store

@@ -1,0 +1,14 @@
+pub mod Classes
+pub mod Counts
+pub mod Dropping
+pub mod Fitting
+pub mod Frees
+pub mod Headings
+pub mod Keeping
+pub mod Lending
+pub mod Made
+pub mod Placing
+pub mod Putting
+pub mod Seen
+pub mod Setting
+pub mod Told
