@@ -1,13 +1,14 @@
 -- The words of a block stand at their places.
 use Rattle.std.proofs.Common.{◌≡◌, ℕ, zero, suc, ◌+◌, ◌-◌, ◌*◌, ◌<◌, ◌≤◌, inl, inr, List, ◌++◌, length, refl, sym, ap, ◌∙◌, arith, length-append}
-use Rattle.std.specs.Prelude.{slice_index}
+use Rattle.std.specs.Prelude.{slice_index, slice_set, take, replicate}
 use Rattle.std.proofs.lemmas.Bool.{cases_lt}
-use Rattle.std.proofs.lemmas.List.{get_or_append_left, get_or-append_right}
+use Rattle.std.proofs.lemmas.List.{length-take-le, length-replicate, length-set, get_or-take, get_or-replicate, get_or-set_same, get_or-set_other, take_all, get_or_append_left, get_or-append_right}
+use Rattle.std.proofs.lemmas.Bool.Decides.{eqb_tells}
 use Rattle.std.proofs.lemmas.Grind.{same_number_lists}
 use Rattle.fsc_base.specs.declared.word.WordKind.{WordKind}
 use Rattle.fsc_base.specs.declared.word.WordKind.TheVariants.{Narrow}
-use Rattle.type_desc.specs.Places.{kind_at, narrows_before, value_at, base_at}
-use Rattle.type_desc.specs.Cells.{IsPlaced, front_of, back_of, fronts, backs, placed_of, PlacesEach, PlacedOnce}
+use Rattle.type_desc.specs.Places.{placed, kind_at, narrows_before, value_at, base_at}
+use Rattle.type_desc.specs.Cells.{IsPlacedIn, front_of, back_of, fronts, backs, placed_of, PlacedSize, PlacesEach, PlacedOnce, ZerosPlaced, SetsValue, SetsBase, TenBytes}
 use Rattle.type_desc.proofs.PlaceLaws.{front_end, FatAt, NarrowAt, cases_at, narrow_at, grown, fats_and_narrows, shape_layout}
 
 -- what a word adds
@@ -160,30 +161,85 @@ both_placed kinds values bases total w h = elim (cases_at kinds total w) [
   | inr narrow ↦ narrow_placed kinds values bases total w h narrow
 ]
 
-pub length-placed_of : (kinds : List WordKind) (total : ℕ) (values bases : List ℕ) → length (placed_of kinds total values bases) ≡ 2 * total
+pub length-placed_of : PlacedSize
 unfolding placed_of
 length-placed_of kinds total values bases =
     omega (arith, length-append (fronts kinds values bases total) (backs kinds bases total), length-fronts kinds values bases total, length-backs kinds values bases total, fats_and_narrows kinds total)
 
 pub places_each : PlacesEach
 places_each kinds total values bases = record {
-  size = length-placed_of kinds total values bases;
-  value = λ w h. (both_placed kinds values bases total w h).0;
-  base = λ w h. (both_placed kinds values bases total w h).1;
+  room = omega (arith, length-placed_of kinds total values bases);
+  values_stand = λ w h. (both_placed kinds values bases total w h).0;
+  bases_stand = λ w h. (both_placed kinds values bases total w h).1;
 }
 
 -- two lists with the same values and bases at their places have the same word at an index
-same_word : (kinds : List WordKind) (total : ℕ) (values bases words others : List ℕ) → IsPlaced kinds total values bases words → IsPlaced kinds total values bases others
+same_word : (kinds : List WordKind) (total : ℕ) (values bases words others : List ℕ) → IsPlacedIn kinds total values bases words → IsPlacedIn kinds total values bases others
     → (i : ℕ) → i < 2 * total → slice_index words i ≡ slice_index others i
 same_word kinds total values bases words others one other i within =
     let found = (shape_layout kinds total).each i within in
     elim found.2 [
-      | inl value ↦ ap (λ k. slice_index words k) value ∙ one.value found.0 found.1 ∙ sym (other.value found.0 found.1) ∙ ap (λ k. slice_index others k) (sym value)
-      | inr base ↦ ap (λ k. slice_index words k) base ∙ one.base found.0 found.1 ∙ sym (other.base found.0 found.1) ∙ ap (λ k. slice_index others k) (sym base)
+      | inl value ↦ ap (λ k. slice_index words k) value ∙ one.values_stand found.0 found.1 ∙ sym (other.values_stand found.0 found.1) ∙ ap (λ k. slice_index others k) (sym value)
+      | inr base ↦ ap (λ k. slice_index words k) base ∙ one.bases_stand found.0 found.1 ∙ sym (other.bases_stand found.0 found.1) ∙ ap (λ k. slice_index others k) (sym base)
     ]
 
 pub placed_once : PlacedOnce
 placed_once kinds total values bases words h =
     let other = places_each kinds total values bases in
-    same_number_lists words (placed_of kinds total values bases) (h.size ∙ sym other.size)
-    (λ i within. same_word kinds total values bases words (placed_of kinds total values bases) h other i (omega (arith, h.size)))
+    let size : length (take (2 * total) words) ≡ 2 * total = length-take-le (2 * total) words h.room in
+    same_number_lists (take (2 * total) words) (placed_of kinds total values bases) (size ∙ sym (length-placed_of kinds total values bases))
+    (λ i within. get_or-take (2 * total) words i 0 (omega (arith, size)) ∙ same_word kinds total values bases words (placed_of kinds total values bases) h other i (omega (arith, size)))
+
+-- zeros stand at all places of zeros
+zeros_in : (kinds : List WordKind) (total : ℕ) (values bases : List ℕ) → ((w : ℕ) → w < total → slice_index values w ≡ 0) → ((w : ℕ) → w < total → slice_index bases w ≡ 0)
+    → IsPlacedIn kinds total values bases (replicate (2 * total) 0)
+zeros_in kinds total values bases no_values no_bases =
+    let layout = shape_layout kinds total in
+    let zeros : List ℕ = replicate (2 * total) 0 in
+    let size : length zeros ≡ 2 * total = length-replicate (2 * total) 0 in
+    record {
+      room = omega (arith, size);
+      values_stand = λ w h. get_or-replicate (2 * total) (value_at kinds total w) 0 0 (layout.value_within w h) ∙ sym (no_values w h);
+      bases_stand = λ w h. get_or-replicate (2 * total) (base_at kinds total w) 0 0 (layout.base_within w h) ∙ sym (no_bases w h);
+    }
+
+pub zeros_placed : ZerosPlaced
+zeros_placed kinds total values bases no_values no_bases =
+    let zeros : List ℕ = replicate (2 * total) 0 in
+    let size : length zeros ≡ 2 * total = length-replicate (2 * total) 0 in
+    sym (placed_once kinds total values bases zeros (zeros_in kinds total values bases no_values no_bases))
+    ∙ take_all (2 * total) zeros (omega (arith, size))
+
+-- a list that is written reads back what was written, and elsewhere what it had
+set_reads : (place : ℕ → ℕ) (total : ℕ) (items words : List ℕ) → ((v w : ℕ) → v < total → w < total → place v ≡ place w → v ≡ w)
+    → ((w : ℕ) → w < total → place w < length words) → ((w : ℕ) → w < total → slice_index words (place w) ≡ slice_index items w)
+    → (w v : ℕ) → w < total → w < length items → (k : ℕ) → k < total → slice_index (slice_set words (place w) v) (place k) ≡ slice_index (slice_set items w v) k
+set_reads place total items words apart within same w v h in_items k hk = elim (eqb_tells k w) [
+  | inl here ↦
+      ap (λ j. slice_index (slice_set words (place w) v) (place j)) here.1
+      ∙ get_or-set_same words (place w) v 0 (within w h)
+      ∙ sym (get_or-set_same items w v 0 in_items)
+      ∙ ap (λ j. slice_index (slice_set items w v) j) (sym here.1)
+  | inr other ↦
+      get_or-set_other words (place w) (place k) v 0 (λ e. other.1 (apart k w hk h e))
+      ∙ same k hk
+      ∙ sym (get_or-set_other items w k v 0 other.1)
+]
+
+pub sets_value : SetsValue
+sets_value total value base layout values bases words w v placed h in_values = record {
+  room = omega (arith, length-set words (value w) v, placed.room);
+  values_stand = set_reads value total values words layout.values_apart (λ k hk. omega (arith, layout.value_within k hk, placed.room)) placed.values_stand w v h in_values;
+  bases_stand = λ k hk. get_or-set_other words (value w) (base k) v 0 (λ e. layout.no_value_is_base w k h hk (sym e)) ∙ placed.bases_stand k hk;
+}
+
+pub sets_base : SetsBase
+sets_base total value base layout values bases words w v placed h in_bases = record {
+  room = omega (arith, length-set words (base w) v, placed.room);
+  values_stand = λ k hk. get_or-set_other words (base w) (value k) v 0 (layout.no_value_is_base k w hk h) ∙ placed.values_stand k hk;
+  bases_stand = set_reads base total bases words layout.bases_apart (λ k hk. omega (arith, layout.base_within k hk, placed.room)) placed.bases_stand w v h in_bases;
+}
+
+pub ten_bytes : TenBytes
+unfolding placed_of placed
+ten_bytes = refl

@@ -1,9 +1,10 @@
 -- Values and bases have places of their own.
 use Rattle.std.proofs.Common.{◌≡◌, ◌≢◌, ℕ, zero, suc, ◌+◌, ◌-◌, ◌*◌, ◌<◌, ◌≤◌, ◌⊎◌, inl, inr, List, refl, sym, ap, subst, arith}
+use Rattle.std.specs.Prelude.{◌%◌, slice_index_or, [], ◌∷◌}
 use Rattle.std.proofs.lemmas.Bool.{cases_lt}
 use Rattle.fsc_base.specs.declared.word.WordKind.{WordKind}
 use Rattle.fsc_base.specs.declared.word.WordKind.TheVariants.{Fat, Narrow}
-use Rattle.type_desc.specs.Places.{kind_at, fats_before, narrows_before, place_of_kind, placed, value_at, base_at, plane_value_at, plane_base_at, ShapesLayOut, PlaneLaysOut}
+use Rattle.type_desc.specs.Places.{kind_at, fats_in, narrows_in, fats_before, narrows_before, place_of_kind, placed, value_at, base_at, plane_value_at, plane_base_at, ShapesLayOut, PlaneLaysOut, NarrowPlaces, FatPlaces}
 
 -- the index behind what stands in front for the words before w
 abbrev pub front_end : List WordKind → (w : ℕ) → ℕ
@@ -247,3 +248,29 @@ plane_layout total = record {
   no_value_is_base = λ v w hv hw e. omega arith;
   each = plane_each total;
 }
+
+-- one kind for all words
+one_kind : (kind : WordKind) (w : ℕ) → kind_at (kind ∷ []) w ≡ kind
+one_kind kind w =
+    let place : w % 1 ≡ 0 = omega arith in
+    ap (λ k. slice_index_or (kind ∷ []) k Narrow) place
+
+no_fats : (w : ℕ) → fats_before (Narrow ∷ []) w ≡ 0
+no_fats zero = refl
+no_fats (suc w) = omega (arith, no_fats w, ap fats_in (one_kind Narrow w))
+
+no_narrows : (w : ℕ) → narrows_before (Fat ∷ []) w ≡ 0
+no_narrows zero = refl
+no_narrows (suc w) = omega (arith, no_narrows w, ap narrows_in (one_kind Fat w))
+
+pub narrow_places : NarrowPlaces
+narrow_places total w =
+    let at = narrow_at (Narrow ∷ []) total w (one_kind Narrow w) in
+    let sum = fats_and_narrows (Narrow ∷ []) w in
+    (omega (arith, at.value, sum, no_fats w), omega (arith, at.base, sum, no_fats w))
+
+pub fat_places : FatPlaces
+fat_places total w =
+    let at = fat_at (Fat ∷ []) total w (one_kind Fat w) in
+    let sum = fats_and_narrows (Fat ∷ []) w in
+    (omega (arith, at.value, sum, no_narrows w), omega (arith, at.base, sum, no_narrows w))

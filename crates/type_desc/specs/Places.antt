@@ -1,5 +1,5 @@
 -- Where the values and bases of a block's words stand in its cell. A block of W words has 2W words in its cell.
-use Rattle.std.specs.Prelude.{◌≡◌, ◌≢◌, ℕ, zero, suc, ◌+◌, ◌-◌, ◌*◌, ◌%◌, ◌<◌, ◌⊎◌, List, length, slice_index_or}
+use Rattle.std.specs.Prelude.{◌≡◌, ◌≢◌, ℕ, zero, suc, ◌+◌, ◌-◌, ◌*◌, ◌%◌, ◌<◌, ◌⊎◌, List, [], ◌∷◌, length, slice_index_or}
 use Rattle.fsc_base.specs.declared.word.WordKind.{WordKind}
 use Rattle.fsc_base.specs.declared.word.WordKind.TheVariants.{Fat, Narrow}
 
@@ -64,3 +64,11 @@ ShapesLayOut = (kinds : List WordKind) (total : ℕ) → IsLayout total (value_a
 
 abbrev pub PlaneLaysOut : Type 0
 PlaneLaysOut = (total : ℕ) → IsLayout total (plane_value_at total) (plane_base_at total)
+
+-- the places where all words are narrow
+abbrev pub NarrowPlaces : Type 0
+NarrowPlaces = (total w : ℕ) → (value_at (Narrow ∷ []) total w ≡ w) × (base_at (Narrow ∷ []) total w ≡ 2 * total - 1 - w)
+
+-- and where all are fat
+abbrev pub FatPlaces : Type 0
+FatPlaces = (total w : ℕ) → (value_at (Fat ∷ []) total w ≡ 2 * w + 1) × (base_at (Fat ∷ []) total w ≡ 2 * w)

@@ -12,6 +12,11 @@ mod shapes;
 pub use descriptor::{decode_desc, encode_desc};
 pub use kinds::Kinds;
 pub use laws::{
-    cells_are_placed, descriptors_read_back, places_are_apart, shapes_are_found, shapes_are_least,
+    cells_are_placed, cells_are_set, descriptors_read_back, places_are_apart, shapes_are_found,
+    shapes_are_least,
 };
 pub use shape::{Shape, place};
+pub use shapes::Shapes;
+
+#[cfg(test)]
+mod tests;

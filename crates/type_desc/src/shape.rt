@@ -15,8 +15,9 @@ use std::marker::Model;
 /// times. Word w of a block has the kind of w modulo the number of the shape's words. Contracts see the list of kinds.
 #[derive(Debug, Drop)]
 pub struct Shape {
-    words: u32,
-    kinds: Kinds,
+    /// How many words they are.
+    pub words: u32,
+    pub kinds: Kinds,
     /// How many fat words stand before each word, and, last, in all of them.
     fats: Vec<u32>,
 }
@@ -97,6 +98,15 @@ impl Shape {
         ensures shape { IsShape self.now }
     {
         self.kinds.as_slice()
+    }
+
+    /// The same, without the shape. It takes no memory.
+    pub fn into_kinds(self) -> Kinds
+        ensures kinds { result ≡ self }
+        ensures shape { IsShape self }
+    {
+        let Shape { kinds, .. } = self;
+        kinds
     }
 
     /// The kind of a block's word.
