@@ -139,11 +139,11 @@ new_sound : (store : Store) (layouts : Layouts) (b : ℕ) (layout : Layout) (hea
 new_sound store layouts b layout heap x i v bytes bases c =
     let was_block : IsBlock x = c.object.holds.sound.blocks b x c.object.found in
     record {
-  blocks = each_block heap b x (with_content x bytes bases) (λ _ z. IsBlock z) c.object.found
-      (record { size = was_block.size; base = was_block.base; filled = λ _. c.filled })
-      (λ d z other h. c.object.holds.sound.blocks d z h);
-  greatest = c.object.holds.sound.greatest;
-}
+      blocks = each_block heap b x (with_content x bytes bases) (λ _ z. IsBlock z) c.object.found
+          (record { size = was_block.size; base = was_block.base; filled = λ _. c.filled })
+          (λ d z other h. c.object.holds.sound.blocks d z h);
+      greatest = c.object.holds.sound.greatest;
+    }
 
 new_headers : (store : Store) (layouts : Layouts) (b : ℕ) (layout : Layout) (heap : Heap) (x : Block) (i v : ℕ) (bytes bases : List ℕ)
     → Changes store layouts b layout heap x i v bytes bases
@@ -185,7 +185,7 @@ new_inside : (store : Store) (layouts : Layouts) (b : ℕ) (layout : Layout) (he
     → Changes store layouts b layout heap x i v bytes bases
     → (c : ℕ) (z : Block) → block_at (with_block heap b (with_content x bytes bases)) c ≡ Some z → is_live_object z ≡ true
     → LiesIn 0 (4 * length (set store.words (cell_place store b i) v)) (length (with_block heap b (with_content x bytes bases)).blocks)
-      (header_of (new_memory store b i v) 0 c).cell (2 * words_of z.size)
+    (header_of (new_memory store b i v) 0 c).cell (2 * words_of z.size)
 new_inside store layouts b layout heap x i v bytes bases c d z h live =
     let before = was heap b x bytes bases c.object.found d z h in
     let head = same_headers store layouts b layout heap x i v c.object d before.old before.found in
@@ -228,22 +228,22 @@ object_kept store layouts b layout heap x i v bytes bases object within filled l
     let c : Changes store layouts b layout heap x i v bytes bases = record { object = object; within = within; filled = filled; laid = laid } in
     let head = same_headers store layouts b layout heap x i v object b x object.found in
     record {
-  are_layouts = object.are_layouts;
-  holds = record {
-    sound = new_sound store layouts b layout heap x i v bytes bases c;
-    stands = record {
-      headers = new_headers store layouts b layout heap x i v bytes bases c;
-      kept = new_kept store layouts b layout heap x i v bytes bases c;
-      inside = new_inside store layouts b layout heap x i v bytes bases c;
-      apart = new_apart store layouts b layout heap x i v bytes bases c;
-    };
-    made = object.holds.made ∙ sym (length-with_block heap b (with_content x bytes bases));
-    greatest = object.holds.greatest;
-  };
-  found = block_at-with_same heap b x (with_content x bytes bases) object.found;
-  live = object.live;
-  unsealed = object.unsealed;
-  decided = subst (λ (h : HeaderWords). 3 ≤ h.desc) (sym head) object.decided;
-  desc = subst (λ (h : HeaderWords). layouts h.desc ≡ Some layout) (sym head) object.desc;
-  laid_out = subst (λ (h : HeaderWords). IsLaidOut (new_memory store b i v) h.cell layout (with_content x bytes bases)) (sym head) laid;
-}
+      are_layouts = object.are_layouts;
+      holds = record {
+        sound = new_sound store layouts b layout heap x i v bytes bases c;
+        stands = record {
+          headers = new_headers store layouts b layout heap x i v bytes bases c;
+          kept = new_kept store layouts b layout heap x i v bytes bases c;
+          inside = new_inside store layouts b layout heap x i v bytes bases c;
+          apart = new_apart store layouts b layout heap x i v bytes bases c;
+        };
+        made = object.holds.made ∙ sym (length-with_block heap b (with_content x bytes bases));
+        greatest = object.holds.greatest;
+      };
+      found = block_at-with_same heap b x (with_content x bytes bases) object.found;
+      live = object.live;
+      unsealed = object.unsealed;
+      decided = subst (λ (h : HeaderWords). 3 ≤ h.desc) (sym head) object.decided;
+      desc = subst (λ (h : HeaderWords). layouts h.desc ≡ Some layout) (sym head) object.desc;
+      laid_out = subst (λ (h : HeaderWords). IsLaidOut (new_memory store b i v) h.cell layout (with_content x bytes bases)) (sym head) laid;
+    }

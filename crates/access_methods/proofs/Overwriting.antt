@@ -21,7 +21,7 @@ pub overwritten_none : {X : Type 0} (xs : List X) (place : ℕ) (items : List X)
 overwritten_none xs place items = ap (λ (i : ℕ). take place xs ++ drop i xs) (add-zero place) ∙ take-append-drop place xs
 
 -- as many items, where they are there
-as_paste : {X : Type 0} (xs : List X) (place k : ℕ) (items : List X) → k ≤ length items → paste xs place items k ≡ overwritten xs place (take k items)
+pub as_paste : {X : Type 0} (xs : List X) (place k : ℕ) (items : List X) → k ≤ length items → paste xs place items k ≡ overwritten xs place (take k items)
 as_paste {X = X} xs place k items within =
     ap (λ (i : ℕ). take place xs ++ take k items ++ drop (place + i) xs) (sym (length-take-le k items within))
     ∙ append_assoc (take place xs) (take k items) (drop (place + length (take k items)) xs)

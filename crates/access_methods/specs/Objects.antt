@@ -44,6 +44,6 @@ abbrev pub with_bases_at : (w : ℕ) → List ℕ → Block → Block
 with_bases_at w bases block = record block { bases = overwritten block.bases w bases }
 
 -- a store is changed as a change of that object says, in every heap that it held
-abbrev pub Turns : (old new : Store) (number : ℕ) (layout : Layout) (change : Block → Block) → Type 0
-Turns old new number layout change = (layouts : Layouts) (heap : Heap) (block : Block) → HoldsObject old layouts number layout heap block
-    → HoldsObject new layouts number layout (with_block heap number (change block)) (change block)
+pub record Turns (old new : Store) (number : ℕ) (layout : Layout) (change : Block → Block) : Type 0 where
+  pub keeps : (layouts : Layouts) (heap : Heap) (block : Block) → HoldsObject old layouts number layout heap block
+      → HoldsObject new layouts number layout (with_block heap number (change block)) (change block)
