@@ -1,0 +1,11 @@
+//! Layouts of cells, and what C's accesses do by them in a store of cells.
+#![tactic(auto)]
+
+mod access;
+mod form;
+mod layout;
+mod locate;
+mod object;
+
+pub use access::{read, write};
+pub use layout::{Layout, Mixed, Narrow, Pair, Plane};
