@@ -7,3 +7,4 @@ pub mod LowBytes
 pub mod Overwriting
 pub mod Places
 pub mod Rereading
+pub mod Whole

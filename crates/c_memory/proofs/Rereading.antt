@@ -1,26 +1,18 @@
 -- What is read after a write of a whole word at a multiple of 4.
-use Rattle.std.proofs.Common.{None, replicate, nat_le, ◌≡◌, ℕ, ◌+◌, ◌/◌, ◌%◌, ◌^◌, ◌<◌, ◌≤◌, Some, Ok, length, take, drop, true, leb-true, eq-eqb, sym, ap, ◌∙◌, arith}
-use Rattle.std.proofs.lemmas.Bool.{and_parts, cond-true}
+use Rattle.std.proofs.Common.{None, replicate, ◌≡◌, ℕ, ◌+◌, ◌/◌, ◌%◌, ◌^◌, ◌<◌, ◌≤◌, Some, Ok, length, take, drop, eq-eqb, sym, ap, ◌∙◌, arith}
+use Rattle.std.proofs.lemmas.Bool.{cond-true}
 use Rattle.std.proofs.lemmas.List.{get_or-set_same, length-replicate}
 use Rattle.std.proofs.lemmas.Option.{same_Some}
 use Rattle.fsc_base.specs.declared.word.Word.{Word}
 use Rattle.fsc_base.specs.declared.word.Width.TheVariants.{Four}
 use Rattle.c_memory.specs.Access.{base_in, cleared, distance, is_within, read_of, touched, with_word, within, word_in, write_of}
-use Rattle.c_memory.specs.Blocks.{Block, Heap, block_at, is_live_object, words_of}
+use Rattle.c_memory.specs.Blocks.{Block, Heap, block_at}
 use Rattle.c_memory.specs.Bytes.{little_endian, little_endian_bytes}
 use Rattle.c_memory.proofs.Accesses.{around}
 use Rattle.c_memory.proofs.Changes.{block_at-changes, write_changes}
 use Rattle.c_memory.proofs.LittleEndian.{length-little_endian_bytes, little_endian-word}
+use Rattle.c_memory.proofs.Whole.{IsWhole, offset_fits}
 use Rattle.c_memory.proofs.Overwriting.{length-overwritten, part-overwritten_same}
-
--- a block has as many bytes as its size, and a base for each of its words
-pub record IsWhole (block : Block) : Type 0 where
-  pub byte_count : length block.bytes ≡ block.size
-  pub base_count : length block.bases ≡ words_of block.size
-
--- an access is within the block
-pub offset_fits : (block : Block) (offset n : ℕ) → is_within block offset n ≡ true → offset + n ≤ block.size
-offset_fits block offset n h = leb-true (offset + n) block.size (and_parts (is_live_object block) (nat_le (offset + n) block.size) h).1
 
 -- the value that was written
 value_back : (block : Block) (offset : ℕ) (what : Word) → IsWhole block → offset + 4 ≤ block.size → what.value < 2 ^ 32
