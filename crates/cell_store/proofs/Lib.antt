@@ -1,9 +1,16 @@
+pub mod CellLaws
+pub mod ChangeLaws
 pub mod Classes
 pub mod Counts
+pub mod CreationLaws
 pub mod Dropping
+pub mod EmptyLaws
 pub mod Fitting
 pub mod Frees
+pub mod HeaderChanges
 pub mod Headings
+pub mod HeapBlocks
+pub mod HeldLaws
 pub mod Keeping
 pub mod Lending
 pub mod Made
@@ -11,4 +18,7 @@ pub mod Placing
 pub mod Putting
 pub mod Seen
 pub mod Setting
+pub mod StoreLaws
+pub mod Sums
 pub mod Told
+pub mod WriteLaws

@@ -83,7 +83,7 @@ pub live_at : (class : ℕ) (blocks : List Block) (i : ℕ) (d : Block) → i < 
 unfolding live_in
 live_at class blocks i d h = get_or-le-sum_by (counts class) blocks i d h
 
-abbrev spans : Block → ℕ
+abbrev pub spans : Block → ℕ
 spans block = span block.size
 
 pub next_push : (blocks : List Block) (block : Block) (g h : List ℕ)

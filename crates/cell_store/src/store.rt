@@ -1,9 +1,13 @@
 //! The store of cells.
 
-ghost use Rattle.std.specs.Prelude.{◌≡◌, ℕ, ◌+◌, ◌*◌, ◌/◌, ◌%◌, ◌^◌, ◌<◌, ◌≤◌, ◌↔◌, length, replicate, slice_index_or, IfOk, IsTrue, MatchResult};
-ghost use Rattle.c_memory.specs.Blocks.{words_of};
+ghost use Rattle.std.specs.Prelude.{◌≡◌, ℕ, ◌+◌, ◌*◌, ◌/◌, ◌%◌, ◌^◌, ◌<◌, ◌≤◌, ◌↔◌, length, replicate, slice_index_or, IfOk, IsOk, IsTrue, MatchResult};
+ghost use Rattle.c_memory.specs.Blocks.{Heap, words_of};
+ghost use Rattle.c_memory.specs.Storage.{FitsIn};
+ghost use Rattle.c_memory.specs.declared.kind.BlockKind.{BlockKind};
+ghost use Rattle.cell_store.specs.Held.{HoldsCreated, HoldsDecided, HoldsKilled, HoldsNone, HoldsSealed};
+ghost use Rattle.cell_store.specs.Layouts.{Layouts};
 ghost use Rattle.cell_store.specs.Making.{without_cell, Clears, Makes, Puts, StoreFits};
-ghost use Rattle.cell_store.specs.Store.{cell_place, header_in, with_cell_word, with_desc, IsLiveIn, IsMade};
+ghost use Rattle.cell_store.specs.Store.{cell_place, header_in, with_cell_word, with_desc, Holds, IsLiveIn, IsMade};
 
 use crate::cell_pool::CellPool;
 use crate::size::{class_of, span, words_of};
@@ -45,6 +49,7 @@ impl CellStore {
         ensures words { IfOk result (λ store. store.words ≡ replicate (4 * (bytes / 16)) 0) }
         ensures made { IfOk result (λ store. store.made ≡ 0) }
         ensures greatest { IfOk result (λ store. store.greatest ≡ replicate 30 0) }
+        ensures heaps { IfOk result (λ store. HoldsNone store) }
     {
         let region = bytes / 16 * 16;
         let count = (region / 4) as usize;
@@ -115,7 +120,8 @@ impl CellStore {
     pub fn set_desc(&mut self, block: u32, desc: u32)
         requires live { IsLiveIn self.old block }
         requires object { 2 ≤ desc }
-        ensures { self.new ≡ with_desc self.old block desc }
+        ensures store { self.new ≡ with_desc self.old block desc }
+        ensures heaps { HoldsDecided self.old block desc self.new }
     {
         self.words[4 * (block as usize - 1)] = desc;
     }
@@ -126,7 +132,8 @@ impl CellStore {
         requires live { IsLiveIn self.old block }
         requires multiple { (header_in self.old block).desc % 4 ≡ 0 }
         requires object { 4 ≤ (header_in self.old block).desc }
-        ensures { self.new ≡ with_desc self.old block ((header_in self.old block).desc + 1) }
+        ensures store { self.new ≡ with_desc self.old block ((header_in self.old block).desc + 1) }
+        ensures heaps { HoldsSealed self.old block self.new }
     {
         let desc = self.header(block).desc;
         self.set_desc(block, desc + 1);
@@ -168,7 +175,10 @@ impl CellStore {
     pub fn make(&mut self, size: u32, desc: u32) -> Result<u32, Full>
         requires some { 1 ≤ desc }
         requires function { desc ≡ 1 → size ≡ 0 }
-        ensures { MatchResult result
+        ensures heaps { IfOk result (λ _. HoldsCreated self.old size desc self.new) }
+        ensures fits { (heap : Heap) (layouts : Layouts) (maker : BlockKind) → Holds self.old heap layouts →
+            (IsOk result ↔ FitsIn (4 * length self.old.words) heap size maker) }
+        ensures store { MatchResult result
             (λ block. StoreFits self.old size × Makes self.old size desc block self.new)
             (λ _. ¬ StoreFits self.old size × (self.new ≡ self.old)) }
     {
@@ -182,7 +192,8 @@ impl CellStore {
     /// used again.
     pub fn drop_cell(&mut self, block: u32)
         requires { IsLiveIn self.old block }
-        ensures { self.new ≡ without_cell self.old block }
+        ensures store { self.new ≡ without_cell self.old block }
+        ensures heaps { HoldsKilled self.old block self.new }
     {
         let header = self.header(block);
         let first = 4 * (block as usize - 1);
