@@ -1,9 +1,8 @@
 //! Descriptors: shapes in bytes. The count of the words stands in four bytes, the lowest first; then comes a byte for each
 //! word, 0 for a narrow one and 1 for a fat one, and zeros to a multiple of four.
 
-ghost use Rattle.std.specs.Prelude.{◌≡◌, ℕ, ◌+◌, ◌<◌, ◌≤◌, ◌++◌, List, Some, None, length, map, replicate, IfOk, IsTrue, OnOk, ◌↔◌};
+ghost use Rattle.std.specs.Prelude.{◌≡◌, ◌++◌, ◌↔◌, length, map, replicate, IfOk, IsTrue, OnOk};
 ghost use Rattle.type_desc.specs.Descriptors.{byte_of, descriptor_of, FindsKindBytes, FindsKind, FindsKinds, Reads};
-ghost use Rattle.type_desc.specs.Periods.{IsShape};
 
 use crate::kinds::Kinds;
 use crate::period::least_period;

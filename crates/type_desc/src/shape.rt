@@ -1,6 +1,6 @@
 //! Shapes, and the places of a block's words in its cell.
 
-ghost use Rattle.std.specs.Prelude.{◌≡◌, ◌+◌, ◌^◌, ◌<◌, ◌≤◌, length, IfOk};
+ghost use Rattle.std.specs.Prelude.{◌≡◌, ◌^◌, ◌<◌, ◌≤◌, length, IfOk};
 ghost use Rattle.type_desc.specs.Periods.{IsLeastPeriod, IsShape};
 ghost use Rattle.type_desc.specs.Places.{kind_at, fats_in, fats_before, placed};
 ghost use Rattle.type_desc.specs.Tables.{IsTable};
