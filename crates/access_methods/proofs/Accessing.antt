@@ -92,7 +92,7 @@ zeros_spell : (n : ℕ) → little_endian (replicate n 0) ≡ 0
 zeros_spell zero = refl
 zeros_spell (suc n) = rw (zeros_spell n) refl
 
-abbrev zeros : ℕ → List ℕ
+abbrev pub zeros : ℕ → List ℕ
 zeros n = replicate n 0
 
 pub zero_item : (n k : ℕ) → get_or (zeros n) k 0 ≡ 0
@@ -104,7 +104,7 @@ pub part_of_zeros : (size offset n : ℕ) → offset + n ≤ size → take n (dr
 part_of_zeros size offset n h =
     ap (λ (bs : List ℕ). take n bs) (drop-replicate offset size 0) ∙ take-replicate n (size - offset) 0 (omega arith)
 
-abbrev either : Bool → ℕ → ℕ
+abbrev pub either : Bool → ℕ → ℕ
 either b base = if b then base else 0
 
 either_zero : (b : Bool) → either b 0 ≡ 0

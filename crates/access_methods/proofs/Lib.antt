@@ -9,3 +9,5 @@ pub mod Writing
 pub mod Filling
 pub mod Located
 pub mod Accessing
+pub mod Taking
+pub mod CopyLaws

@@ -5,3 +5,4 @@ pub mod Objects
 pub mod Shaped
 pub mod ShapedLaws
 pub mod Spots
+pub mod Copied

@@ -1,5 +1,5 @@
 -- A live object in a store, and what a change of its cell makes of it.
-use Rattle.std.specs.Prelude.{◌≡◌, ℕ, ◌≤◌, true, false, List, slice_set, Some}
+use Rattle.std.specs.Prelude.{◌≡◌, ℕ, ◌/◌, ◌≤◌, true, false, List, slice_set, Some}
 use Rattle.c_memory.specs.Bytes.{overwritten}
 use Rattle.c_memory.specs.Blocks.{Block, Heap, block_at, is_live_object, with_block}
 use Rattle.cell_store.specs.Layouts.{Layout, Layouts, IsLayout}
@@ -42,6 +42,11 @@ with_base_at w base block = record block { bases = slice_set block.bases w base 
 
 abbrev pub with_bases_at : (w : ℕ) → List ℕ → Block → Block
 with_bases_at w bases block = record block { bases = overwritten block.bases w bases }
+
+-- a block with other bytes from an offset on, and other bases from the word of that offset on
+abbrev pub with_both : (offset : ℕ) → (bytes bases : List ℕ) → Block → Block
+with_both offset bytes bases block =
+    with_content block (overwritten block.bytes offset bytes) (overwritten block.bases (offset / 4) bases)
 
 -- a store is changed as a change of that object says, in every heap that it held
 pub record Turns (old new : Store) (number : ℕ) (layout : Layout) (change : Block → Block) : Type 0 where

@@ -2,10 +2,13 @@
 #![tactic(auto)]
 
 mod access;
+mod copying;
 mod form;
 mod layout;
 mod locate;
 mod object;
+mod taken;
 
 pub use access::{read, write};
+pub use copying::copy;
 pub use layout::{Layout, Mixed, Narrow, Pair, Plane};

@@ -5,7 +5,7 @@ ghost use Rattle.c_memory.specs.Access.{bytes_of, touched, with_word, word_in};
 ghost use Rattle.c_memory.specs.Blocks.{Block, words_of};
 ghost use Rattle.c_memory.specs.Bytes.{little_endian_bytes};
 ghost use Rattle.access_methods.specs.Forms.{layout_in};
-ghost use Rattle.access_methods.specs.Objects.{Turns, with_base_at, with_bases_at, with_byte, with_bytes_at};
+ghost use Rattle.access_methods.specs.Objects.{Turns, with_base_at, with_bases_at, with_byte, with_both, with_bytes_at};
 ghost use Rattle.access_methods.specs.Cells.{IsObjectIn, Lays, base_in, value_in};
 
 use crate::form::Chosen;
@@ -41,7 +41,7 @@ impl Object<'_> {
     }
 
     /// The base of its word `w`.
-    fn base(&self, store: &CellStore, w: u32) -> u32
+    pub fn base(&self, store: &CellStore, w: u32) -> u32
         requires stands { IsObjectIn store.now self.now }
         requires within { w < words_of self.now.size }
         ensures { result ≡ base_in store.now self.now w }
@@ -222,6 +222,17 @@ impl Object<'_> {
         } else {
             self.clear_bases(store, offset, n);
         }
+    }
+
+    /// Writes bytes from an offset on, and bases from the word of that offset on.
+    pub fn put(&self, store: &mut CellStore, offset: u32, bytes: &[u8], bases: &[u32])
+        requires stands { IsObjectIn store.old self.now }
+        requires bytes_within { offset + length bytes.now ≤ self.now.size }
+        requires bases_within { offset / 4 + length bases.now ≤ words_of self.now.size }
+        ensures { Turns store.old store.new self.now.block (layout_in self.now.layout) (with_both offset bytes.now bases.now) }
+    {
+        self.set_bytes(store, offset, bytes);
+        self.set_bases(store, offset / 4, bases);
     }
 }
 
