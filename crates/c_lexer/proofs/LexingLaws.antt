@@ -276,6 +276,7 @@ joined_ends bytes place (next ∷ front) last is = by next.kind
   where
     plain : EndsWith IsEnd (string_at bytes place ∷ next ∷ (front ++ last ∷ []))
     plain = (string_at bytes place ∷ next ∷ front, last, refl, is)
+
     by : (kind : TokenKind) → EndsWith IsEnd (joined_with bytes place kind next (front ++ last ∷ []))
     by (Name n) = plain
     by (Keyword k) = plain

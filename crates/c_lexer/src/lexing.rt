@@ -76,8 +76,8 @@ impl Lexer {
         requires { IsSingle token.now.kind }
         ensures { Takes self.old self.new token.now result }
     {
-        let kind = single_kind(self.alloc, token.kind, token.text.as_slice(), token.place)?;
         self.finish_string()?;
+        let kind = single_kind(self.alloc, token.kind, token.text.as_slice(), token.place)?;
         self.done.push(Token {
             kind,
             place: token.place,

@@ -15,3 +15,6 @@ pub use keyword::{Keyword, read_keyword};
 pub use lexing::{lex, one_meaning, tokens};
 pub use punctuator::{Punctuator, read_punctuator};
 pub use token::{BasicType, Token, TokenKind, Tokens};
+
+#[cfg(test)]
+mod tests;

@@ -5,7 +5,7 @@ use Rattle.c_lexer.proofs.lexing.Lexer.take_single.Goals as goal
 
 pub returns-in_err-finish_string : goal.returns-in_err-finish_string
 returns-in_err-finish_string c =
-    let p = err_from_is_err_and c.from_residual-in_err-finish_string.result c.from_residual-in_err-finish_string.ensures.1 in
+    let p = err_from_is_err_and c.from_residual.result c.from_residual.ensures.1 in
     rw (p.1, p.2) (stops_long c.args.self.now c.args.token.now c.in_err-finish_string.field-0.0 c.requires c.in_err-finish_string.ensures)
 
 pub returns : goal.returns
