@@ -1,6 +1,6 @@
 //! All blocks that were ever made.
 
-ghost use Rattle.std.specs.Prelude.{◌≡◌, ◌+◌, ◌^◌, ◌<◌, Some, None, IfSome, IsTrue, MatchOption};
+ghost use Rattle.std.specs.Prelude.{◌≡◌, ◌+◌, ◌-◌, ◌^◌, ◌<◌, ◌≤◌, Some, None, IfSome, IsTrue, MatchOption};
 ghost use Rattle.c_memory.specs.Access.{clear_of, distance, read_of, refused, within, write_of};
 ghost use Rattle.c_memory.specs.Blocks.{block_at, killed, sealed_at};
 ghost use Rattle.c_memory.specs.Copying.{copy_of};
@@ -54,7 +54,8 @@ impl Heap {
     /// Makes a block of so many bytes, none of them where it is a function, and gives its number, which is the number of
     /// blocks now. It is alive, with zero bytes and no bases. Refused, with nothing changed, with `Full` exactly where
     /// afterwards more than 2^29 bytes would be stored or the next virtual base would lie behind 2^32 - 2^16, or with
-    /// `NoMemory`. It takes about two bytes of memory for each byte of the block, and the time to clear them.
+    /// `NoMemory`. It takes about two bytes of memory for each byte of the block, and the time to clear them; beside that
+    /// a bounded number of steps on the average, as a vector's `push` does.
     pub fn create(&mut self, size: u32, kind: BlockKind) -> Result<u32, MakeNo>
         requires { HasSizeOfKind size kind }
         ensures { Makes self.old size kind self.new result }
@@ -194,16 +195,18 @@ impl Heap {
     }
 
     /// How many bytes are stored: 16 for each block ever made, and for each class of cells its size times the greatest
-    /// number of its blocks that were live at once.
+    /// number of its blocks that were live at once. It is at most 2^29.
     pub fn stored(&self) -> u64
-        ensures { result ≡ stored_of self.now }
+        ensures stored { result ≡ stored_of self.now }
+        ensures limit { result ≤ 2 ^ 29 }
     {
         self.tally.stored
     }
 
-    /// The virtual base of the next block.
+    /// The virtual base of the next block. It is at most 2^32 - 2^16.
     pub fn next_base(&self) -> u64
-        ensures { result ≡ next_base self.now }
+        ensures base { result ≡ next_base self.now }
+        ensures limit { result ≤ 2 ^ 32 - 2 ^ 16 }
     {
         self.tally.next_base
     }
