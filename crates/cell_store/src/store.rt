@@ -95,6 +95,13 @@ impl CellStore {
         1 <= block && block <= self.made
     }
 
+    /// Whether a block of this number was made and is a live object.
+    pub fn is_live(&self, block: u32) -> bool
+        ensures { IsTrue result ↔ IsLiveIn self.now block }
+    {
+        self.is_made(block) && self.header(block).desc >= 2
+    }
+
     /// Word `i` of the cell of a live object. The cell has two words for each word of the object.
     pub fn word(&self, block: u32, i: u32) -> u32
         requires live { IsLiveIn self.now block }
