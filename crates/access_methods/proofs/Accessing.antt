@@ -12,7 +12,7 @@ use Rattle.c_memory.specs.Access.{bytes_of, distance, within, refused, word_in, 
 use Rattle.c_memory.specs.Blocks.{Block, Heap, block_at, with_block, words_of}
 use Rattle.c_memory.specs.Bytes.{little_endian}
 use Rattle.c_memory.specs.Sound.{IsFilled}
-use Rattle.cell_store.specs.Layouts.{Layout, Layouts, IsLayout}
+use Rattle.cell_store.specs.Layouts.{AreLayouts, Layout, Layouts, IsLayout}
 use Rattle.cell_store.specs.StandsFor.{Memory, IsLaidOut, IsUndecided, Keeps}
 use Rattle.cell_store.specs.Store.{Store, memory_of, header_in, IsLiveIn, Holds}
 use Rattle.type_desc.specs.Shapes.{shape_of}
@@ -24,7 +24,7 @@ use Rattle.access_methods.specs.Shaped.{plane, shaped, shaped_by, layouts_of}
 use Rattle.access_methods.specs.ShapedLaws.{plane_is_layout, shaped_is_layout}
 use Rattle.access_methods.specs.Forms.{layout_in, IsFormOf}
 use Rattle.access_methods.specs.Spots.{IsSpot, IsNowhere, IsBeyond}
-use Rattle.access_methods.specs.Objects.{AreLayouts, HoldsObject, Turns}
+use Rattle.access_methods.specs.Objects.{HoldsObject, Turns}
 use Rattle.access_methods.specs.Cells.{IsObjectIn, Lays}
 use Rattle.access_methods.specs.Accesses.{IsDecidedAt, Writes}
 use Rattle.access_methods.proofs.Located.{IsThere, there, not_there}

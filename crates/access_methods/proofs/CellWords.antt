@@ -3,10 +3,10 @@ use Rattle.std.proofs.Common.{◌≡◌, ◌≢◌, ℕ, ◌+◌, ◌-◌, ◌*�
 use Rattle.std.proofs.lemmas.List.{length-set, get_or-set_same, get_or-set_other}
 use Rattle.c_memory.specs.Blocks.{Block, Heap, block_at, is_live_object, with_block, words_of}
 use Rattle.c_memory.specs.Sound.{IsFilled, IsBlock, IsHeap}
-use Rattle.cell_store.specs.Layouts.{Layout, Layouts, IsLayout}
+use Rattle.cell_store.specs.Layouts.{AreLayouts, Layout, Layouts, IsLayout}
 use Rattle.cell_store.specs.StandsFor.{Memory, HeaderWords, header_of, header_address, IsLaidOut, Keeps, Describes, LiesIn}
 use Rattle.cell_store.specs.Store.{Store, memory_of, header_in, cell_place, with_cell_word}
-use Rattle.access_methods.specs.Objects.{AreLayouts, HoldsObject, with_content}
+use Rattle.access_methods.specs.Objects.{HoldsObject, with_content}
 use Rattle.access_methods.proofs.HeapBlocks.{block_at-made, block_at-with_same, length-with_block, each_block}
 
 -- ---- words by address

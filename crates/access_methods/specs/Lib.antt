@@ -6,3 +6,4 @@ pub mod Shaped
 pub mod ShapedLaws
 pub mod Spots
 pub mod Copied
+pub mod Laws

@@ -2,17 +2,13 @@
 use Rattle.std.specs.Prelude.{◌≡◌, ℕ, ◌/◌, ◌≤◌, true, false, List, slice_set, Some}
 use Rattle.c_memory.specs.Bytes.{overwritten}
 use Rattle.c_memory.specs.Blocks.{Block, Heap, block_at, is_live_object, with_block}
-use Rattle.cell_store.specs.Layouts.{Layout, Layouts, IsLayout}
+use Rattle.cell_store.specs.Layouts.{AreLayouts, Layout, Layouts}
 use Rattle.cell_store.specs.StandsFor.{IsLaidOut}
 use Rattle.cell_store.specs.Store.{Store, memory_of, header_in, Holds}
 
 -- the cell of a block has its bytes and bases, laid out so
 abbrev pub LaysOut : Store → (number : ℕ) → Layout → Block → Type 0
 LaysOut store number layout block = IsLaidOut (memory_of store.words) (header_in store number).cell layout block
-
--- each descriptor stands for a layout that is one
-abbrev pub AreLayouts : Layouts → Type 0
-AreLayouts layouts = (desc : ℕ) (layout : Layout) → layouts desc ≡ Some layout → IsLayout layout
 
 -- A store holds a heap, in which this block is a live object that is decided and not sealed, and this is its layout.
 pub record HoldsObject (store : Store) (layouts : Layouts) (number : ℕ) (layout : Layout) (heap : Heap) (block : Block) : Type 0 where

@@ -4,6 +4,7 @@
 mod access;
 mod copying;
 mod form;
+mod laws;
 mod layout;
 mod locate;
 mod object;
@@ -11,4 +12,5 @@ mod taken;
 
 pub use access::{read, write};
 pub use copying::copy;
+pub use laws::{numbers_stand_for_layouts, places_of_one_kind};
 pub use layout::{Layout, Mixed, Narrow, Pair, Plane};
