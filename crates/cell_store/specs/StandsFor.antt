@@ -53,7 +53,7 @@ pub record IsUndecided (memory : Memory) (desc cell : ℕ) (block : Block) : Typ
   pub blank : IsBlank memory cell block
 
 -- it has the layout that its descriptor stands for
-pub record IsDecided (memory : Memory) (layouts : Layouts) (desc cell : ℕ) (block : Block) : Type 1 where
+pub record IsDecided (memory : Memory) (layouts : Layouts) (desc cell : ℕ) (block : Block) : Type 0 where
   pub layout : Layout
   pub found : layouts desc ≡ Some layout
   pub decided : 3 ≤ desc
@@ -61,7 +61,7 @@ pub record IsDecided (memory : Memory) (layouts : Layouts) (desc cell : ℕ) (bl
   pub laid_out : IsLaidOut memory cell layout block
 
 -- it is sealed: its descriptor is one more than that of its layout
-pub record IsSealedCell (memory : Memory) (layouts : Layouts) (desc cell : ℕ) (block : Block) : Type 1 where
+pub record IsSealedCell (memory : Memory) (layouts : Layouts) (desc cell : ℕ) (block : Block) : Type 0 where
   pub of : ℕ
   pub desc_is : desc ≡ suc of
   pub layout : Layout
@@ -71,7 +71,7 @@ pub record IsSealedCell (memory : Memory) (layouts : Layouts) (desc cell : ℕ) 
   pub laid_out : IsLaidOut memory cell layout block
 
 -- the cell of a live object holds it
-abbrev pub Keeps : Memory → Layouts → (desc cell : ℕ) → Block → Type 1
+abbrev pub Keeps : Memory → Layouts → (desc cell : ℕ) → Block → Type 0
 Keeps memory layouts desc cell block =
     IsUndecided memory desc cell block ⊎ (IsDecided memory layouts desc cell block ⊎ IsSealedCell memory layouts desc cell block)
 
@@ -93,7 +93,7 @@ pub record LiesIn (region bytes made cell words : ℕ) : Type 0 where
 
 -- Memory stands for a heap: a region of so many bytes has the header of every block, and the cells of its live objects,
 -- which do not overlap, laid out by their descriptors.
-pub record StandsFor (memory : Memory) (region bytes : ℕ) (heap : Heap) (layouts : Layouts) : Type 1 where
+pub record StandsFor (memory : Memory) (region bytes : ℕ) (heap : Heap) (layouts : Layouts) : Type 0 where
   pub headers : (b : ℕ) (block : Block) → block_at heap b ≡ Some block → Describes (header_of memory region b) block
   pub kept : (b : ℕ) (block : Block) → block_at heap b ≡ Some block → is_live_object block ≡ true →
       Keeps memory layouts (header_of memory region b).desc (header_of memory region b).cell block

@@ -43,7 +43,7 @@ abbrev pub with_desc : Store → (block desc : ℕ) → Store
 with_desc store block desc = record store { words = slice_set store.words (4 * (block - 1)) desc }
 
 -- a store stands for a heap: its words do, it has as many blocks, and the counts of both are the same
-pub record Holds (store : Store) (heap : Heap) (layouts : Layouts) : Type 1 where
+pub record Holds (store : Store) (heap : Heap) (layouts : Layouts) : Type 0 where
   pub sound : IsHeap heap
   pub stands : StandsFor (memory_of store.words) 0 (4 * length store.words) heap layouts
   pub made : store.made ≡ length heap.blocks

@@ -1,9 +1,10 @@
 //! Preprocessing tokens.
 
-ghost use Rattle.std.specs.Prelude.{◌≡◌};
+ghost use Rattle.std.specs.Prelude.{◌≡◌, IfOk};
 
 use crate::hide_set::HideSet;
-use fsc_base::{Bytes, Place};
+use fsc_base::{Bytes, NoMemory, Place};
+use std::alloc::Global;
 use std::marker::Model;
 
 /// What a preprocessing token is (C90 6.1).
@@ -41,6 +42,28 @@ pub struct PpToken {
     pub spaced: bool,
     /// The macros that it is not expanded for any more.
     pub hide: HideSet,
+}
+
+impl PpToken {
+    /// The same token once more. Refused only for want of memory.
+    pub fn copy(&self, alloc: Global) -> Result<PpToken, NoMemory>
+        ensures { IfOk result (λ copy. copy ≡ self.now) }
+    {
+        self.copy_at(alloc, self.place)
+    }
+
+    /// The same token at another place. Refused only for want of memory.
+    pub fn copy_at(&self, alloc: Global, place: Place) -> Result<PpToken, NoMemory>
+        ensures { IfOk result (λ copy. copy ≡ record self.now { place = place }) }
+    {
+        Ok(PpToken {
+            kind: self.kind,
+            text: Bytes::from_slice(alloc, self.text.as_slice())?,
+            place,
+            spaced: self.spaced,
+            hide: self.hide.copy(alloc)?,
+        })
+    }
 }
 
 /// A list of preprocessing tokens.

@@ -1,0 +1,13 @@
+pub mod ValueWords
+pub mod HeapBlocks
+pub mod CellWords
+pub mod Overwriting
+pub mod Turning
+pub mod Descs
+pub mod Reading
+pub mod Writing
+pub mod Filling
+pub mod Located
+pub mod Accessing
+pub mod Taking
+pub mod CopyLaws

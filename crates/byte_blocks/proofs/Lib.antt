@@ -1,0 +1,4 @@
+mod Classes
+mod Counting
+mod Creating
+pub mod Living

@@ -1,0 +1,10 @@
+pub mod Accesses
+pub mod Changes
+pub mod CopiedBases
+pub mod Creations
+pub mod LittleEndian
+pub mod LowBytes
+pub mod Overwriting
+pub mod Places
+pub mod Rereading
+pub mod Whole

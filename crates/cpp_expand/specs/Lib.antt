@@ -1,0 +1,9 @@
+pub mod Tokens
+pub mod Table
+pub mod Operators
+pub mod Calls
+pub mod Expanding
+pub mod Refusing
+pub mod Defining
+pub mod Causes
+pub mod Known
