@@ -1,8 +1,6 @@
 -- Why the tool answers as it does before the lines of notes are written.
-use Rattle.std.specs.Prelude.{◌≡◌, ℕ, ◌⊎◌, List, [], ◌∷◌, Any, Bool, Option, Some, None, IsSome}
+use Rattle.std.specs.Prelude.{◌≡◌, ℕ, ◌⊎◌, List, Bool, Option, Some, None, IsSome}
 use Rattle.fsc_base.specs.declared.image.Image.{Image}
-use Rattle.fsc_base.specs.declared.rule.Rule.{Rule}
-use Rattle.fsc_base.specs.declared.rule.Rule.TheVariants.{K31, K32, K33, K34, K35, K36, K37, K38, K39, K40, K41, K42, K43, K44, K45, L01, L02, L04, L06, L10, L14, L15}
 use Rattle.fsc_outside.specs.Counts.{Rose}
 use Rattle.fsc_outside.specs.FileMap.{FileMap, Holds}
 use Rattle.elf_image.specs.Reading.{image_at}
@@ -30,15 +28,6 @@ pub record FileCounts : Type 0 where
 abbrev pub IsNoProgram : List ℕ → Type 0
 IsNoProgram text = (program : Program) → IsPlain text program → ⊥
 
--- the rules of texts before they are parsed
-abbrev pub text_rules : List Rule
-text_rules =
-    K31 ∷ K32 ∷ K33 ∷ K34 ∷ K35 ∷ K36 ∷ K37 ∷ K38 ∷ K39 ∷ K40 ∷ K41 ∷ K42 ∷ K43 ∷ K44 ∷ K45 ∷ L01 ∷ L02 ∷ L04 ∷ L06 ∷ L10 ∷ L14 ∷ L15 ∷ []
-
--- it is one of them
-abbrev pub IsTextRule : Rule → Type 0
-IsTextRule rule = Any (λ (one : Rule). rule ≡ one) text_rules
-
 -- why a unit, with what it includes, is outside what is built
 abbrev pub RefusesUnit : Ending → (file : List ℕ) → FileCounts → Type 0
 RefusesUnit (Exited status) file counts = ⊥
@@ -47,11 +36,11 @@ RefusesUnit (OutOfStorage storage) file counts = ⊥
 RefusesUnit (StepsUsed n) file counts = ⊥
 RefusesUnit Usage file counts = ⊥
 RefusesUnit (MissingFile name) file counts = (name ≡ file) × Holds counts.told file None × Rose counts.absences_before counts.absences_after
-RefusesUnit (FileFault name) file counts = (IsSome counts.told → counts.blamed ≡ name) × Rose counts.faults_before counts.faults_after
+RefusesUnit (FileFault name) file counts = Rose counts.faults_before counts.faults_after × (IsSome counts.told → counts.blamed ≡ name)
 RefusesUnit ReadFault file counts = ⊥
 RefusesUnit WriteFault file counts = ⊥
 RefusesUnit NoteFault file counts = ⊥
-RefusesUnit (Rejected rule place name) file counts = IsTextRule rule × (rule ≡ K40 → Rose counts.absences_before counts.absences_after)
+RefusesUnit (Rejected rule place name) file counts = Unit {0}
 RefusesUnit (BadImage fault offset) file counts = ⊥
 RefusesUnit (Trap kind pc) file counts = ⊥
 RefusesUnit (NotBuilt Text) file counts = Unit {0}

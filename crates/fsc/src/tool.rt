@@ -3,7 +3,6 @@
 ghost use Rattle.std.specs.Prelude.{◌≡◌, ◌≢◌, ℕ, List, ◌+◌, ◌*◌, ◌<◌, ◌≤◌, ◌⊎◌, length, Bool, Option, Some, None, IsSome};
 ghost use Rattle.fsc_base.specs.declared.place.Place.{Place};
 ghost use Rattle.fsc_base.specs.declared.rule.Rule.{Rule};
-ghost use Rattle.fsc_base.specs.declared.rule.Rule.TheVariants as Rule;
 ghost use Rattle.fsc_outside.specs.Counts.{Rose};
 ghost use Rattle.fsc_outside.specs.FileMap.{Holds};
 ghost use Rattle.fsc_outside.specs.Streams.{Appends, AppendsFront};
@@ -12,7 +11,7 @@ ghost use Rattle.plain_text.specs.declared.program.Program.{Program};
 ghost use Rattle.plain_text.specs.Program.{IsPlain};
 ghost use Rattle.command_line.specs.Requests.{IsUsable};
 ghost use Rattle.fsc.specs.Words.{Asks, AsksRun, IsUnbuilt, NamesToRead, MayRead};
-ghost use Rattle.fsc.specs.Performing.{IsTextRule, Performed};
+ghost use Rattle.fsc.specs.Performing.{Performed};
 ghost use Rattle.fsc.specs.Tool.{Job, IsAsked, IsRunOf, RunsImage, AppendsAtLeast, IsEnd, IsUnless, IsRefusedText, IsNoted};
 
 use crate::ending::{Ending, Form};
@@ -139,9 +138,8 @@ pub fn tool<F: Files, S: Source, O: Sink, E: Sink>(
         Asks words.now file steps → Holds (F.contents files.old) file (Some text) → ((program : Program) → IsPlain text program → ⊥) →
         IsRefusedText result }
     ensures rejected { (rule : Rule) (place : Place) (name : List ℕ) → result ≡ Ending.Rejected rule place name →
-        IsTextRule rule × (rule ≡ Rule.K40 → Rose (F.absence_count files.old) (F.absence_count files.new)) ×
-        ((file : List ℕ) × (steps : ℕ) × (text : List ℕ) × Asks words.now file steps × Holds (F.contents files.old) file (Some text) ×
-        ((program : Program) → IsPlain text program → ⊥)) }
+        (file : List ℕ) × (steps : ℕ) × (text : List ℕ) × Asks words.now file steps × Holds (F.contents files.old) file (Some text) ×
+        ((program : Program) → IsPlain text program → ⊥) }
     ensures missing { (name : List ℕ) → result ≡ Ending.MissingFile name → Rose (F.absence_count files.old) (F.absence_count files.new) ×
         NamesToRead words.now name × Holds (F.contents files.old) name None }
     ensures file_fault { (name : List ℕ) → result ≡ Ending.FileFault name → Rose (F.fault_count files.old) (F.fault_count files.new) ×
