@@ -1,1 +1,4 @@
 pub mod HideSetLaws
+pub mod CharacterLaws
+pub mod UnclosedLaws
+pub mod PhaseLaws

@@ -1,4 +1,4 @@
-use Rattle.std.proofs.Common.{◌≡◌, sym, take, length, arith}
+use Rattle.std.proofs.Common.{◌≡◌, sym, arith}
 use Rattle.std.proofs.lemmas.Grind.{common_steps}
 use Rattle.pp_token.specs.HideSets.{has, common}
 use Rattle.pp_token.proofs.HideSetLaws.{NoRepeats-filter, NoRepeats-same}

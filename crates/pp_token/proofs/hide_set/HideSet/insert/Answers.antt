@@ -1,4 +1,4 @@
-use Rattle.std.proofs.Common.{◌≡◌, ◌++◌, ◌∷◌, [], List, ℕ, Bool, true, false, refl, sym, ◌∙◌}
+use Rattle.std.proofs.Common.{◌≡◌, ◌++◌, ◌∷◌, [], false, refl, sym, ◌∙◌}
 use Rattle.pp_token.specs.HideSets.{has}
 use Rattle.pp_token.proofs.HideSetLaws.{NoRepeats-push, NoRepeats-same}
 use Rattle.pp_token.proofs.hide_set.HideSet.insert.Goals as goal
