@@ -5,3 +5,5 @@ pub mod Calls
 pub mod Expanding
 pub mod Refusing
 pub mod Defining
+pub mod Causes
+pub mod Known

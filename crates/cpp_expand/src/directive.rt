@@ -1,5 +1,9 @@
 //! `#define` and `#undef` lines (C90 6.8.3).
 
+ghost use Rattle.std.specs.Prelude.{◌≡◌};
+ghost use Rattle.fsc_base.specs.declared.place.Refused.TheVariants as refusals;
+ghost use Rattle.cpp_expand.specs.Causes.{place_of_line};
+
 use crate::definition::{Function, Macro, Parameters};
 use crate::replacement::replacement_list;
 use fsc_base::{Broken, NoMemory, Place, Refused, Rule};
@@ -27,7 +31,9 @@ pub fn content(line: &[PpToken]) -> &[PpToken] {
 }
 
 /// The place of a line's `#`, which is its first token.
-fn place_of(line: &[PpToken]) -> Place {
+fn place_of(line: &[PpToken]) -> Place
+    ensures { result ≡ place_of_line line.now }
+{
     match line {
         [hash, ..] => hash.place,
         [] => Place {
@@ -39,7 +45,9 @@ fn place_of(line: &[PpToken]) -> Place {
 }
 
 /// A line that breaks a rule: its `#` is the place.
-pub fn broken(rule: Rule, line: &[PpToken]) -> Refused {
+pub fn broken(rule: Rule, line: &[PpToken]) -> Refused
+    ensures { result ≡ refusals.Broken (record { rule = rule; place = place_of_line line.now }) }
+{
     Refused::Broken(Broken {
         rule,
         place: place_of(line),

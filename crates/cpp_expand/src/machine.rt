@@ -1,20 +1,21 @@
 //! Expansion by a stack of lists.
 
+ghost use Rattle.std.specs.Prelude.{◌≡◌, ◌++◌, IfOk, IfErr};
+ghost use Rattle.fsc_base.specs.declared.place.Refused.TheVariants as refusals;
+ghost use Rattle.cpp_expand.specs.Causes.{Refuses, OfExpand};
+ghost use Rattle.cpp_expand.specs.Operators.{escaped, quoted};
+
 use crate::argument_list::{ArgumentList, Progress};
 use crate::definition::{BodyToken, Function, Macro};
 use crate::hide_sets::HideId;
 use crate::item::{Item, Text};
 use crate::macros::Macros;
-use crate::store::Store;
+use crate::store::{MOST_WORK, Store};
 use crate::substitution::{Argument, escape_into, substituted};
 use fsc_base::{Broken, Bytes, NoMemory, Place, Refused, Rule};
 use pp_token::{HideSet, PpKind, PpToken, PpTokens};
 use std::alloc::Global;
 use std::mem;
-
-/// How many tokens are taken at most in one call. A bomb of macros that expands to nothing would run for ages; it ends
-/// here, as for want of memory.
-const MOST_STEPS: u64 = 1 << 32;
 
 /// The most tokens of a unit.
 const MOST_TOKENS: u64 = 1 << 20;
@@ -71,7 +72,9 @@ enum Progression {
 }
 
 /// A rule that is broken at a place.
-fn broken(rule: Rule, place: Place) -> Refused {
+fn broken(rule: Rule, place: Place) -> Refused
+    ensures { result ≡ refusals.Broken (record { rule = rule; place = place }) }
+{
     Refused::Broken(Broken { rule, place })
 }
 
@@ -103,7 +106,9 @@ impl<'a> Call<'a> {
 
 impl<'a> Machine<'a> {
     /// Gives out a token. Broken L10 where it is one too many for the unit.
-    fn give(&mut self, token: Item<'a>) -> Result<(), Refused> {
+    fn give(&mut self, token: Item<'a>) -> Result<(), Refused>
+        ensures { IfErr result (Refuses OfExpand) }
+    {
         if self.waiting.is_empty() && token.kind != PpKind::LineEnd && token.kind != PpKind::End {
             if self.counted >= MOST_TOKENS {
                 return Err(broken(Rule::L10, token.place));
@@ -138,12 +143,9 @@ impl<'a> Machine<'a> {
     }
 
     /// Replaces the name of an object-like macro.
-    fn object(
-        &mut self,
-        name: Item<'a>,
-        index: usize,
-        body: &'a [BodyToken],
-    ) -> Result<(), Refused> {
+    fn object(&mut self, name: Item<'a>, index: usize, body: &'a [BodyToken]) -> Result<(), Refused>
+        ensures { IfErr result (Refuses OfExpand) }
+    {
         let hide = self.store.hide_with(name.hide, index)?;
         let tokens = substituted(&mut self.store, name.place, &[], body)?;
         Ok(self.put_in(name, hide, tokens)?)
@@ -193,7 +195,9 @@ impl<'a> Machine<'a> {
         name: Item<'a>,
         index: usize,
         function: &'a Function,
-    ) -> Result<(), Refused> {
+    ) -> Result<(), Refused>
+        ensures { IfErr result (Refuses OfExpand) }
+    {
         self.open();
         let Some((list, close)) = self.arguments()? else {
             return Err(broken(Rule::K38, name.place));
@@ -222,7 +226,9 @@ impl<'a> Machine<'a> {
     }
 
     /// Goes on with a call whose arguments below an index are expanded: to the next one, or to its replacement.
-    fn proceed(&mut self, call: Call<'a>, from: usize) -> Result<(), Refused> {
+    fn proceed(&mut self, call: Call<'a>, from: usize) -> Result<(), Refused>
+        ensures { IfErr result (Refuses OfExpand) }
+    {
         match call.next_expanded(from) {
             Some(index) => Ok(self.expand_argument(call, index)?),
             None => self.replace(call),
@@ -242,7 +248,9 @@ impl<'a> Machine<'a> {
     }
 
     /// Replaces a call whose arguments are expanded.
-    fn replace(&mut self, call: Call<'a>) -> Result<(), Refused> {
+    fn replace(&mut self, call: Call<'a>) -> Result<(), Refused>
+        ensures { IfErr result (Refuses OfExpand) }
+    {
         let place = call.name.place;
         let body = call.function.body.as_slice();
         let tokens = substituted(&mut self.store, place, call.arguments.as_slice(), body)?;
@@ -250,7 +258,9 @@ impl<'a> Machine<'a> {
     }
 
     /// Ends a list: it is the argument for which the last call waits, or all.
-    fn end(&mut self) -> Result<Progression, Refused> {
+    fn end(&mut self) -> Result<Progression, Refused>
+        ensures { IfErr result (Refuses OfExpand) }
+    {
         let Some(Waiting { outer, call, index }) = self.waiting.pop() else {
             return Ok(Progression::Done);
         };
@@ -264,13 +274,17 @@ impl<'a> Machine<'a> {
     }
 
     /// Gives out a token that stands for a predefined macro.
-    fn predefined(&mut self, name: Item<'a>, kind: PpKind, text: Vec<u8>) -> Result<(), Refused> {
+    fn predefined(&mut self, name: Item<'a>, kind: PpKind, text: Vec<u8>) -> Result<(), Refused>
+        ensures { IfErr result (Refuses OfExpand) }
+    {
         let text = self.store.keep(text)?;
         self.give(Item { kind, text, ..name })
     }
 
     /// What `__FILE__` stands for: a string literal.
-    fn file_text(&self) -> Result<Vec<u8>, NoMemory> {
+    fn file_text(&self) -> Result<Vec<u8>, NoMemory>
+        ensures { IfOk result (λ text. text.items ≡ quoted (escaped self.now.macros.now.file)) }
+    {
         let mut text = Vec::from_slice(self.alloc, b"\"")?;
         escape_into(&mut text, self.macros.file())?;
         text.push(b'"')?;
@@ -284,12 +298,9 @@ impl<'a> Machine<'a> {
     }
 
     /// Turns the name of a macro, which isn't hidden, into what it stands for.
-    fn turn_macro(
-        &mut self,
-        name: Item<'a>,
-        index: usize,
-        found: &'a Macro,
-    ) -> Result<(), Refused> {
+    fn turn_macro(&mut self, name: Item<'a>, index: usize, found: &'a Macro) -> Result<(), Refused>
+        ensures { IfErr result (Refuses OfExpand) }
+    {
         match found {
             Macro::ObjectLike(body) => self.object(name, index, body),
             Macro::FunctionLike(function) if self.opens() => self.called(name, index, function),
@@ -326,7 +337,9 @@ impl<'a> Machine<'a> {
     }
 
     /// Takes the next token of the list and turns it into what it stands for.
-    fn step(&mut self) -> Result<Progression, Refused> {
+    fn step(&mut self) -> Result<Progression, Refused>
+        ensures { IfErr result (Refuses OfExpand) }
+    {
         let Some(token) = self.list.pending.pop() else {
             return self.end();
         };
@@ -338,8 +351,10 @@ impl<'a> Machine<'a> {
     }
 
     /// Expands all.
-    fn run(&mut self) -> Result<(), Refused> {
-        for _ in 0..MOST_STEPS {
+    fn run(&mut self) -> Result<(), Refused>
+        ensures { IfErr result (Refuses OfExpand) }
+    {
+        for _ in 0..MOST_WORK {
             if self.step()? == Progression::Done {
                 return Ok(());
             }
@@ -405,7 +420,9 @@ pub fn expanded(
     macros: &Macros,
     tokens: &[PpToken],
     before: u32,
-) -> Result<PpTokens, Refused> {
+) -> Result<PpTokens, Refused>
+    ensures { IfErr result (Refuses OfExpand) }
+{
     let mut store = Store::new(alloc);
     let items = items(&mut store, macros, tokens)?;
     let mut machine = Machine {

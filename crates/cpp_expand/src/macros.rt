@@ -1,5 +1,9 @@
 //! The macros that are defined.
 
+ghost use Rattle.std.specs.Prelude.{◌≡◌, pos, ◌+ℤ◌, IfErr, OnOk, OnErr};
+ghost use Rattle.cpp_expand.specs.Causes.{Refuses, RefusesAt, OfDefine, OfUndefine, OfExpand, place_of_line};
+ghost use Rattle.cpp_expand.specs.Known.{is_macro, SameMacros, Located};
+
 use crate::definition::Macro;
 use crate::directive::{broken, described, subject};
 use crate::machine::expanded;
@@ -42,7 +46,10 @@ impl Macros {
 
     /// Sets the name that `__FILE__` gives from here on, and what `__LINE__` adds to the line of its token. Takes an
     /// `add` from -2^32 to 2^32. Refused only for want of memory.
-    pub fn locate(&mut self, name: &Name, add: i64) -> Result<(), NoMemory> {
+    pub fn locate(&mut self, name: &Name, add: i64) -> Result<(), NoMemory>
+        ensures ok { OnOk result (Located name.now add self.old self.new) }
+        ensures err { OnErr result (self.new ≡ self.old) }
+    {
         self.file = Bytes::from_slice(self.alloc, name.as_slice())?;
         self.shift = add;
         Ok(())
@@ -62,7 +69,10 @@ impl Macros {
     /// Defines what a `#define` line describes. Takes the tokens of the whole line, its `#` first, with or without its
     /// end. Broken K37 where the line is malformed or names `defined` or a predefined macro, and K36 where the name is
     /// another macro already (C90 6.8.3); the place is that of the `#`. After a refusal nothing has changed.
-    pub fn define(&mut self, line: &PpTokens) -> Result<(), Refused> {
+    pub fn define(&mut self, line: &PpTokens) -> Result<(), Refused>
+        ensures cause { IfErr result (RefusesAt OfDefine (place_of_line line.now)) }
+        ensures err { OnErr result (SameMacros self.old self.new) }
+    {
         let line = line.as_slice();
         let Some((name, rest)) = subject(line, b"define") else {
             return Err(broken(Rule::K37, line));
@@ -88,7 +98,10 @@ impl Macros {
     /// Takes away the macro that an `#undef` line names, if there is one. Takes the tokens of the whole line, its `#`
     /// first, with or without its end. Broken K37 where the line is malformed or names `defined` or a predefined macro;
     /// the place is that of the `#`. After a refusal nothing has changed.
-    pub fn undefine(&mut self, line: &PpTokens) -> Result<(), Refused> {
+    pub fn undefine(&mut self, line: &PpTokens) -> Result<(), Refused>
+        ensures cause { IfErr result (RefusesAt OfUndefine (place_of_line line.now)) }
+        ensures err { OnErr result (self.new ≡ self.old) }
+    {
         let line = line.as_slice();
         match subject(line, b"undef") {
             Some((name, [])) if self.is_free(name) => {
@@ -100,7 +113,9 @@ impl Macros {
     }
 
     /// Whether the name is a macro, a predefined one included. Takes no memory.
-    pub fn is_defined(&self, name: &Name) -> bool {
+    pub fn is_defined(&self, name: &Name) -> bool
+        ensures { result ≡ is_macro self.now name.now }
+    {
         self.table.contains_key(name.as_slice())
     }
 
@@ -111,7 +126,9 @@ impl Macros {
     }
 
     /// What `__FILE__` gives, without quotes.
-    pub(crate) fn file(&self) -> &[u8] {
+    pub(crate) fn file(&self) -> &[u8]
+        ensures { result.now ≡ self.now.file }
+    {
         self.file.as_slice()
     }
 
@@ -130,7 +147,9 @@ impl Macros {
     /// `__DATE__` and `__TIME__`; the place is that of the macro's name. Broken L10 at the first token that is one
     /// more than 2^20 with those before it, ends of lines and End not counted. Calls for more work than any C text has
     /// use are answered NoMemory.
-    pub fn expand(&self, tokens: &PpTokens, before: u32) -> Result<PpTokens, Refused> {
+    pub fn expand(&self, tokens: &PpTokens, before: u32) -> Result<PpTokens, Refused>
+        ensures { IfErr result (Refuses OfExpand) }
+    {
         expanded(self.alloc, self, tokens.as_slice(), before)
     }
 }

@@ -7,8 +7,9 @@ use pp_token::PpKind;
 use std::alloc::Global;
 
 /// How much one call may do: each token that is taken or put anywhere, and each name of a hide set that is looked at,
-/// counts as one. A bomb of macros that expands to nothing would run for ages; it ends here, as for want of memory.
-const MOST_WORK: u64 = 1 << 32;
+/// counts as one. No C text has use for so much. A bomb of macros that expands to nothing would run for ages; it ends
+/// here, as for want of memory.
+pub const MOST_WORK: u64 = 1 << 30;
 
 /// The most tokens that one list may have on the way. A unit has at most 2^20 of them in the end.
 const LONGEST_LIST: usize = 1 << 24;

@@ -1,6 +1,8 @@
 //! Replacement lists with arguments put in, and the operators `#` and `##` (C90 6.8.3.1 to 6.8.3.3).
 
-ghost use Rattle.std.specs.Prelude.{◌≡◌, ◌≤◌, ◌<◌, length, IfOk};
+ghost use Rattle.std.specs.Prelude.{◌≡◌, ◌≤◌, ◌<◌, ◌++◌, length, IfOk, IfErr, OnOk};
+ghost use Rattle.cpp_expand.specs.Causes.{RefusesAt, OfPaste};
+ghost use Rattle.cpp_expand.specs.Operators.{escaped};
 
 use crate::definition::{BodyToken, Role};
 use crate::hide_sets::HideId;
@@ -18,14 +20,17 @@ pub struct Argument<'a> {
     pub expanded: Vec<Item<'a>>,
 }
 
-/// A replacement list's tokens with the arguments put in, as far as it was read.
+/// What a replacement list is read with.
 #[derive(Drop)]
-struct Substitution<'s, 'a> {
-    store: &'s mut Store,
+struct Site<'s, 'a> {
     /// Where the name that is replaced stands.
     place: Place,
     arguments: &'s [Argument<'a>],
-    /// What was put in.
+}
+
+/// What a replacement list gives, as far as it was read.
+#[derive(Drop)]
+struct Output<'a> {
     tokens: Vec<Item<'a>>,
     /// Whether white space stands in front of the next token, since it stood in front of something that gave none.
     owes_space: bool,
@@ -37,10 +42,19 @@ fn copied<'a>(store: &mut Store, list: &[Item<'a>]) -> Result<Vec<Item<'a>>, NoM
     Ok(Vec::from_slice(store.alloc(), list)?)
 }
 
+/// A list of one token.
+fn one<'a>(store: &mut Store, token: Item<'a>) -> Result<Vec<Item<'a>>, NoMemory> {
+    let mut list = Vec::new(store.alloc());
+    store.put(&mut list, token)?;
+    Ok(list)
+}
+
 /// Puts a text into a string, with a backslash in front of each backslash and each double quote.
-pub fn escape_into(string: &mut Vec<u8>, text: &[u8]) -> Result<(), NoMemory> {
+pub fn escape_into(string: &mut Vec<u8>, text: &[u8]) -> Result<(), NoMemory>
+    ensures { OnOk result (string.new.items ≡ string.old.items ++ escaped text.now) }
+{
     for c in text {
-        if matches!(*c, b'\\' | b'"') {
+        if *c == b'\\' || *c == b'"' {
             string.push(b'\\')?;
         }
         string.push(*c)?;
@@ -77,18 +91,23 @@ fn begins_paste(body: &[BodyToken]) -> bool {
     }
 }
 
-impl<'s, 'a> Substitution<'s, 'a> {
+impl<'s, 'a> Site<'s, 'a> {
     /// The argument of a parameter.
     fn argument(&self, index: usize) -> Option<&'s Argument<'a>> {
         self.arguments.get(index)
     }
 
     /// The token that `#` makes of an argument. Where its text is no string literal, it is no token of C.
-    fn string(&mut self, spaced: bool, argument: &[Item<'a>]) -> Result<Item<'a>, NoMemory> {
-        self.store.spend(argument.len())?;
-        let text = string_text(self.store, argument)?;
+    fn string(
+        &self,
+        store: &mut Store,
+        spaced: bool,
+        argument: &[Item<'a>],
+    ) -> Result<Item<'a>, NoMemory> {
+        store.spend(argument.len())?;
+        let text = string_text(store, argument)?;
         let kind = kind_of(text.as_slice()).unwrap_or(PpKind::Other);
-        let text = self.store.keep(text)?;
+        let text = store.keep(text)?;
         Ok(Item {
             kind,
             text,
@@ -99,10 +118,15 @@ impl<'s, 'a> Substitution<'s, 'a> {
     }
 
     /// The token that `#` makes of the argument of this index.
-    fn string_of(&mut self, spaced: bool, index: usize) -> Result<Item<'a>, NoMemory> {
+    fn string_of(
+        &self,
+        store: &mut Store,
+        spaced: bool,
+        index: usize,
+    ) -> Result<Item<'a>, NoMemory> {
         match self.argument(index) {
-            Some(argument) => self.string(spaced, argument.raw.as_slice()),
-            None => self.string(spaced, &[]),
+            Some(argument) => self.string(store, spaced, argument.raw.as_slice()),
+            None => self.string(store, spaced, &[]),
         }
     }
 
@@ -118,31 +142,25 @@ impl<'s, 'a> Substitution<'s, 'a> {
     }
 
     /// The tokens of an argument as they are.
-    fn raw(&mut self, index: usize) -> Result<Vec<Item<'a>>, NoMemory> {
+    fn raw(&self, store: &mut Store, index: usize) -> Result<Vec<Item<'a>>, NoMemory> {
         match self.argument(index) {
-            Some(argument) => copied(self.store, argument.raw.as_slice()),
-            None => Ok(Vec::new(self.store.alloc())),
+            Some(argument) => copied(store, argument.raw.as_slice()),
+            None => Ok(Vec::new(store.alloc())),
         }
     }
 
     /// The tokens that an argument expands to.
-    fn expanded(&mut self, index: usize) -> Result<Vec<Item<'a>>, NoMemory> {
+    fn expanded(&self, store: &mut Store, index: usize) -> Result<Vec<Item<'a>>, NoMemory> {
         match self.argument(index) {
-            Some(argument) => copied(self.store, argument.expanded.as_slice()),
-            None => Ok(Vec::new(self.store.alloc())),
+            Some(argument) => copied(store, argument.expanded.as_slice()),
+            None => Ok(Vec::new(store.alloc())),
         }
-    }
-
-    /// A list of one token.
-    fn one(&mut self, token: Item<'a>) -> Result<Vec<Item<'a>>, NoMemory> {
-        let mut list = Vec::new(self.store.alloc());
-        self.store.put(&mut list, token)?;
-        Ok(list)
     }
 
     /// What the operand at the front of a list stands for, and the list behind it.
     fn operand(
-        &mut self,
+        &self,
+        store: &mut Store,
         body: &'a [BodyToken],
     ) -> Result<(Vec<Item<'a>>, &'a [BodyToken]), NoMemory>
         ensures within { IfOk result (λ found. length found.1.now ≤ length body.now) }
@@ -151,39 +169,38 @@ impl<'s, 'a> Substitution<'s, 'a> {
         match body {
             [hash, parameter, behind @ ..] if hash.role == Role::Hash => {
                 let Role::Raw(index) = parameter.role else {
-                    return Ok((Vec::new(self.store.alloc()), behind));
+                    return Ok((Vec::new(store.alloc()), behind));
                 };
-                let string = self.string_of(hash.spaced, index)?;
-                Ok((self.one(string)?, behind))
+                let string = self.string_of(store, hash.spaced, index)?;
+                Ok((one(store, string)?, behind))
             }
             [token, behind @ ..] => {
                 let tokens = match token.role {
-                    Role::Raw(index) => self.raw(index)?,
-                    Role::Expanded(index) => self.expanded(index)?,
-                    Role::Token | Role::Hash | Role::Paste => {
-                        let placed = self.placed(token);
-                        self.one(placed)?
-                    }
+                    Role::Raw(index) => self.raw(store, index)?,
+                    Role::Expanded(index) => self.expanded(store, index)?,
+                    Role::Token | Role::Hash | Role::Paste => one(store, self.placed(token))?,
                 };
                 Ok((tokens, behind))
             }
-            [] => Ok((Vec::new(self.store.alloc()), body)),
+            [] => Ok((Vec::new(store.alloc()), body)),
         }
     }
 
     /// The one token that `##` makes of two (C90 6.8.3.3).
-    fn joint(&mut self, left: Item<'a>, right: Item<'a>) -> Result<Item<'a>, Refused> {
-        let mut text = Vec::from_slice(self.store.alloc(), self.store.bytes(left.text))?;
-        text.extend_from_slice(self.store.bytes(right.text))?;
-        self.store.spend(text.len())?;
+    fn joint(&self, store: &mut Store, left: Item<'a>, right: Item<'a>) -> Result<Item<'a>, Refused>
+        ensures { IfErr result (RefusesAt OfPaste self.now.place) }
+    {
+        let mut text = Vec::from_slice(store.alloc(), store.bytes(left.text))?;
+        text.extend_from_slice(store.bytes(right.text))?;
+        store.spend(text.len())?;
         let Some(kind) = kind_of(text.as_slice()) else {
             return Err(Refused::Broken(Broken {
                 rule: Rule::K42,
                 place: self.place,
             }));
         };
-        let text = self.store.keep(text)?;
-        let hide = self.store.hide_in_both(left.hide, right.hide)?;
+        let text = store.keep(text)?;
+        let hide = store.hide_in_both(left.hide, right.hide)?;
         Ok(Item {
             kind,
             text,
@@ -195,64 +212,86 @@ impl<'s, 'a> Substitution<'s, 'a> {
 
     /// Puts the right operand of `##` behind the left one, the last token of the left joined with the first of the
     /// right. Where one of them is empty, the other stays.
-    fn join(&mut self, left: &mut Vec<Item<'a>>, right: &[Item<'a>]) -> Result<(), Refused> {
+    fn join(
+        &self,
+        store: &mut Store,
+        left: &mut Vec<Item<'a>>,
+        right: &[Item<'a>],
+    ) -> Result<(), Refused>
+        ensures { IfErr result (RefusesAt OfPaste self.now.place) }
+    {
         let [first, rest @ ..] = right else {
             return Ok(());
         };
         let joint = match left.pop() {
-            Some(last) => self.joint(last, *first)?,
+            Some(last) => self.joint(store, last, *first)?,
             None => *first,
         };
-        self.store.put(left, joint)?;
-        self.store.spend(rest.len())?;
+        store.put(left, joint)?;
+        store.spend(rest.len())?;
         Ok(left.extend_from_slice(rest)?)
     }
 
     /// Takes each `##` and its right operand from the front of a list. The list behind.
     fn pastes(
-        &mut self,
+        &self,
+        store: &mut Store,
         left: &mut Vec<Item<'a>>,
         body: &'a [BodyToken],
     ) -> Result<&'a [BodyToken], Refused>
-        ensures { IfOk result (λ rest. length rest.now ≤ length body.now) }
+        ensures cause { IfErr result (RefusesAt OfPaste self.now.place) }
+        ensures within { IfOk result (λ rest. length rest.now ≤ length body.now) }
     {
         let mut rest = body;
         while let [paste, behind @ ..] = rest {
             if paste.role != Role::Paste {
                 break;
             }
-            let (right, after) = self.operand(behind)?;
-            self.join(left, right.as_slice())?;
+            let (right, after) = self.operand(store, behind)?;
+            self.join(store, left, right.as_slice())?;
             rest = after;
         }
         Ok(rest)
     }
 
+    /// Puts what the front of a list stands for into the output. The list behind.
+    fn front(
+        &self,
+        store: &mut Store,
+        output: &mut Output<'a>,
+        body: &'a [BodyToken],
+    ) -> Result<&'a [BodyToken], Refused>
+        ensures cause { IfErr result (RefusesAt OfPaste self.now.place) }
+        ensures shorter { 0 < length body.now → IfOk result (λ rest. length rest.now < length body.now) }
+    {
+        let spaced = match body {
+            [first, ..] => first.spaced,
+            [] => false,
+        };
+        let (mut tokens, rest) = self.operand(store, body)?;
+        let behind = self.pastes(store, &mut tokens, rest)?;
+        output.put_in(store, spaced, tokens.as_slice())?;
+        Ok(behind)
+    }
+}
+
+impl<'a> Output<'a> {
     /// Puts tokens in the place of one that has white space in front, or not.
-    fn put_in(&mut self, spaced: bool, tokens: &[Item<'a>]) -> Result<(), NoMemory> {
+    fn put_in(
+        &mut self,
+        store: &mut Store,
+        spaced: bool,
+        tokens: &[Item<'a>],
+    ) -> Result<(), NoMemory> {
         let spaced = spaced || self.owes_space;
         let [first, rest @ ..] = tokens else {
             self.owes_space = spaced;
             return Ok(());
         };
         self.owes_space = false;
-        self.store.put(&mut self.tokens, Item { spaced, ..*first })?;
-        self.store.spend(rest.len())?;
+        store.put(&mut self.tokens, Item { spaced, ..*first })?;
+        store.spend(rest.len())?;
         Ok(self.tokens.extend_from_slice(rest)?)
-    }
-
-    /// Puts in what the front of a list stands for. The list behind.
-    fn front(&mut self, body: &'a [BodyToken]) -> Result<&'a [BodyToken], Refused>
-        ensures { 0 < length body.now → IfOk result (λ rest. length rest.now < length body.now) }
-    {
-        let spaced = match body {
-            [first, ..] => first.spaced,
-            [] => false,
-        };
-        let (mut tokens, rest) = self.operand(body)?;
-        let behind = self.pastes(&mut tokens, rest)?;
-        self.put_in(spaced, tokens.as_slice())?;
-        Ok(behind)
     }
 }
 
@@ -263,18 +302,17 @@ pub fn substituted<'a>(
     place: Place,
     arguments: &[Argument<'a>],
     body: &'a [BodyToken],
-) -> Result<Vec<Item<'a>>, Refused> {
-    let tokens = Vec::new(store.alloc());
-    let mut substitution = Substitution {
-        store,
-        place,
-        arguments,
-        tokens,
+) -> Result<Vec<Item<'a>>, Refused>
+    ensures { IfErr result (RefusesAt OfPaste place) }
+{
+    let site = Site { place, arguments };
+    let mut output = Output {
+        tokens: Vec::new(store.alloc()),
         owes_space: false,
     };
     let mut rest = body;
     while !rest.is_empty() {
-        rest = substitution.front(rest)?;
+        rest = site.front(store, &mut output, rest)?;
     }
-    Ok(substitution.tokens)
+    Ok(output.tokens)
 }

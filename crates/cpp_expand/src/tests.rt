@@ -143,28 +143,24 @@ fn breaks(rt: &HostRuntime, text: &[u8], rule: Rule, line: u32) -> bool {
 
 #[test]
 fn the_standards_example_of_constants(rt: HostRuntime) {
-    assert!(rt;
-        gives(
-            &rt,
-            b"#define TABSIZE 100\nint table[TABSIZE];",
-            b"int table[100];"
-        )
-    );
-    assert!(rt;
-        gives(
-            &rt,
-            b"#define max(a, b) ((a) > (b) ? (a) : (b))\nmax(x+1, y)",
-            b"((x+1) > (y) ? (x+1) : (y))"
-        )
-    );
+    for (text, tokens) in [
+        (
+            b"#define TABSIZE 100\nint table[TABSIZE];".as_slice(),
+            b"int table[100];".as_slice(),
+        ),
+        (
+            b"#define max(a, b) ((a) > (b) ? (a) : (b))\nmax(x+1, y)".as_slice(),
+            b"((x+1) > (y) ? (x+1) : (y))".as_slice(),
+        ),
+    ] {
+        assert!(rt; gives(&rt, text, tokens));
+    }
 }
 
 #[test]
 fn the_standards_example_of_rescanning(rt: HostRuntime) {
-    assert!(rt;
-        gives(
-            &rt,
-            b"#define x 3
+    for (text, tokens) in [(
+        b"#define x 3
 #define f(a) f(x * (a))
 #undef x
 #define x 2
@@ -176,19 +172,20 @@ fn the_standards_example_of_rescanning(rt: HostRuntime) {
 #define t(a) a
 f(y+1) + f(f(z)) % t(t(g)(0) + t)(1);
 g(x+(3,4)-w) | h 5) & m
-      (f)^m(m);",
-            b"f(2 * (y+1)) + f(2 * (f(2 * (z[0])))) % f(2 * (0)) + t(1);
+      (f)^m(m);"
+            .as_slice(),
+        b"f(2 * (y+1)) + f(2 * (f(2 * (z[0])))) % f(2 * (0)) + t(1);
 f(2 * (2+(3,4)-0,1)) | f(2 * (~ 5)) & f(2 * (0,1))^m(0,1);"
-        )
-    );
+            .as_slice(),
+    )] {
+        assert!(rt; gives(&rt, text, tokens));
+    }
 }
 
 #[test]
 fn the_standards_example_of_strings_and_pasting(rt: HostRuntime) {
-    assert!(rt;
-        gives(
-            &rt,
-            b"#define str(s) # s
+    for (text, tokens) in [(
+        b"#define str(s) # s
 #define xstr(s) str(s)
 #define debug(s, t) printf(\"x\" # s \"= %d, x\" # t \"= %s\", x ## s, x ## t)
 #define INCFILE(n) vers ## n
@@ -201,78 +198,83 @@ fputs(str(strncmp(\"abc\\0d\", \"abc\", '\\4')
  == 0) str(: @\\n), s);
 xstr(INCFILE(2).h)
 glue(HIGH, LOW);
-xglue(HIGH, LOW)",
-            b"printf(\"x\" \"1\" \"= %d, x\" \"2\" \"= %s\", x1, x2);
+xglue(HIGH, LOW)"
+            .as_slice(),
+        b"printf(\"x\" \"1\" \"= %d, x\" \"2\" \"= %s\", x1, x2);
 fputs(\"strncmp(\\\"abc\\\\0d\\\", \\\"abc\\\", '\\\\4') == 0\" \": @\\n\", s);
 \"vers2.h\"
 \"hello\";
 \"hello\" \", world\""
-        )
-    );
+            .as_slice(),
+    )] {
+        assert!(rt; gives(&rt, text, tokens));
+    }
 }
 
 #[test]
 fn the_standards_example_of_a_made_operator(rt: HostRuntime) {
-    assert!(rt;
-        gives(
-            &rt,
-            b"#define hash_hash # ## #
+    for (text, tokens) in [(
+        b"#define hash_hash # ## #
 #define mkstr(a) # a
 #define in_between(a) mkstr(a)
 #define join(c, d) in_between(c hash_hash d)
-char p[] = join(x, y);",
-            b"char p[] = \"x ## y\";"
-        )
-    );
+char p[] = join(x, y);"
+            .as_slice(),
+        b"char p[] = \"x ## y\";".as_slice(),
+    )] {
+        assert!(rt; gives(&rt, text, tokens));
+    }
 }
 
 #[test]
 fn the_standards_example_of_redefinitions(rt: HostRuntime) {
-    assert!(rt;
-        gives(
-            &rt,
+    for (text, tokens) in [
+        (
             b"#define OBJ_LIKE (1-1)
 #define OBJ_LIKE   (1-1)
 #define FTN_LIKE(a) ( a )
 #define FTN_LIKE( a )( a )
 #define FTN_LIKE( a )(  a   )
-OBJ_LIKE FTN_LIKE(2)",
-            b"(1-1) (2)"
-        )
-    );
-    assert!(rt;
-        gives(
-            &rt,
-            b"#define OBJ_LIKE (1-1)\n#define OBJ_LIKE   (1-1)\nOBJ_LIKE",
-            b"(1-1)"
-        )
-    );
-    assert!(rt;
-        gives(
-            &rt,
-            b"#define F(a) ( a )\n#define F( a )   (  a   )\nF(2)",
-            b"( 2 )"
-        )
-    );
-    assert!(rt;
-        breaks(
-            &rt,
-            b"#define OBJ_LIKE (1-1)\n#define OBJ_LIKE (0)",
+OBJ_LIKE FTN_LIKE(2)"
+                .as_slice(),
+            b"(1-1) (2)".as_slice(),
+        ),
+        (
+            b"#define OBJ_LIKE (1-1)\n#define OBJ_LIKE   (1-1)\nOBJ_LIKE".as_slice(),
+            b"(1-1)".as_slice(),
+        ),
+        (
+            b"#define F(a) ( a )\n#define F( a )   (  a   )\nF(2)".as_slice(),
+            b"( 2 )".as_slice(),
+        ),
+    ] {
+        assert!(rt; gives(&rt, text, tokens));
+    }
+    for (text, rule, line) in [
+        (
+            b"#define OBJ_LIKE (1-1)\n#define OBJ_LIKE (0)".as_slice(),
             Rule::K36,
-            2
-        )
-    );
-    assert!(rt;
-        breaks(
-            &rt,
-            b"#define OBJ_LIKE (1-1)\n#define OBJ_LIKE (1 - 1)",
+            2,
+        ),
+        (
+            b"#define OBJ_LIKE (1-1)\n#define OBJ_LIKE (1 - 1)".as_slice(),
             Rule::K36,
-            2
-        )
-    );
-    assert!(rt; breaks(&rt, b"#define F(a) ( a )\n#define F(b) ( a )", Rule::K36, 2));
-    assert!(rt; breaks(&rt, b"#define F(a) ( a )\n#define F(b) ( b )", Rule::K36, 2));
-    assert!(rt; breaks(&rt, b"#define F(a) 1\n#define F 1", Rule::K36, 2));
+            2,
+        ),
+        (
+            b"#define F(a) ( a )\n#define F(b) ( a )".as_slice(),
+            Rule::K36,
+            2,
+        ),
+        (
+            b"#define F(a) ( a )\n#define F(b) ( b )".as_slice(),
+            Rule::K36,
+            2,
+        ),
+        (b"#define F(a) 1\n#define F 1".as_slice(), Rule::K36, 2),
+    ] {
+        assert!(rt; breaks(&rt, text, rule, line));
+    }
 }
 
 #[test]
@@ -315,191 +317,215 @@ fn malformed_lines(rt: HostRuntime) {
 
 #[test]
 fn hide_sets_meet_at_the_closing_parenthesis(rt: HostRuntime) {
-    assert!(rt; gives(&rt, b"#define f(x) x+f\nf(1)(2)", b"1+f(2)"));
-    assert!(rt;
-        gives(
-            &rt,
-            b"#define f(a) a*g\n#define g(a) f(a)\nf(2)(9)",
-            b"2*9*g"
-        )
-    );
-    assert!(rt;
-        breaks(
-            &rt,
-            b"#define f(a) a*g(\n#define g(a) f(a)\nf(2)(9)",
-            Rule::K38,
-            3
-        )
-    );
-    assert!(rt;
-        gives(
-            &rt,
-            b"#define f(x) h\n#define h g\n#define g(x) x f\nf(1)(2)(3)",
-            b"2 g"
-        )
-    );
+    for (text, tokens) in [
+        (
+            b"#define f(x) x+f\nf(1)(2)".as_slice(),
+            b"1+f(2)".as_slice(),
+        ),
+        (
+            b"#define f(a) a*g\n#define g(a) f(a)\nf(2)(9)".as_slice(),
+            b"2*9*g".as_slice(),
+        ),
+        (
+            b"#define f(x) h\n#define h g\n#define g(x) x f\nf(1)(2)(3)".as_slice(),
+            b"2 g".as_slice(),
+        ),
+    ] {
+        assert!(rt; gives(&rt, text, tokens));
+    }
+    for (text, rule, line) in [(
+        b"#define f(a) a*g(\n#define g(a) f(a)\nf(2)(9)".as_slice(),
+        Rule::K38,
+        3,
+    )] {
+        assert!(rt; breaks(&rt, text, rule, line));
+    }
 }
 
 #[test]
 fn a_macro_that_names_itself(rt: HostRuntime) {
-    assert!(rt; gives(&rt, b"#define A A\nA", b"A"));
-    assert!(rt; gives(&rt, b"#define A B\n#define B A\nA B", b"A B"));
-    assert!(rt; gives(&rt, b"#define A A B\n#define B A B\nA B", b"A A B A B B"));
-    assert!(rt; gives(&rt, b"#define f(x) f(x)\nf(1)", b"f(1)"));
-    assert!(rt; gives(&rt, b"#define f(x) f(x)\nf(f(1))", b"f(f(1))"));
-    assert!(rt; gives(&rt, b"#define f(x) x\nf(f)(1)", b"f(1)"));
-    assert!(rt; gives(&rt, b"#define f(x) x\nf(f(f)(1))", b"f(1)"));
-    assert!(rt; gives(&rt, b"#define f(x) x f\nf(1)", b"1 f"));
-    assert!(rt; gives(&rt, b"#define g f\n#define f(x) x g\nf(1)(2)", b"1 f(2)"));
-    assert!(rt; gives(&rt, b"#define z z[0]\nz", b"z[0]"));
-    assert!(rt; gives(&rt, b"#define foo(x) bar x\nfoo(foo) (2)", b"bar foo (2)"));
+    for (text, tokens) in [
+        (b"#define A A\nA".as_slice(), b"A".as_slice()),
+        (
+            b"#define A B\n#define B A\nA B".as_slice(),
+            b"A B".as_slice(),
+        ),
+        (
+            b"#define A A B\n#define B A B\nA B".as_slice(),
+            b"A A B A B B".as_slice(),
+        ),
+        (b"#define f(x) f(x)\nf(1)".as_slice(), b"f(1)".as_slice()),
+        (
+            b"#define f(x) f(x)\nf(f(1))".as_slice(),
+            b"f(f(1))".as_slice(),
+        ),
+        (b"#define f(x) x\nf(f)(1)".as_slice(), b"f(1)".as_slice()),
+        (b"#define f(x) x\nf(f(f)(1))".as_slice(), b"f(1)".as_slice()),
+        (b"#define f(x) x f\nf(1)".as_slice(), b"1 f".as_slice()),
+        (
+            b"#define g f\n#define f(x) x g\nf(1)(2)".as_slice(),
+            b"1 f(2)".as_slice(),
+        ),
+        (b"#define z z[0]\nz".as_slice(), b"z[0]".as_slice()),
+        (
+            b"#define foo(x) bar x\nfoo(foo) (2)".as_slice(),
+            b"bar foo (2)".as_slice(),
+        ),
+    ] {
+        assert!(rt; gives(&rt, text, tokens));
+    }
 }
 
 #[test]
 fn arguments(rt: HostRuntime) {
-    assert!(rt;
-        gives(
-            &rt,
-            b"#define f(x) [x]\nf() f( ) f(a) f((a,b)) f(\n a\n ) f",
-            b"[] [] [a] [(a,b)] [a] f"
-        )
-    );
-    assert!(rt; gives(&rt, b"#define f() [ ]\nf() f( ) f\n(\n) f", b"[] [] [] f"));
-    assert!(rt;
-        gives(
-            &rt,
-            b"#define f(x,y) [x|y]\nf(,) f(a,) f(,b) f(a,b) f((,),(,))",
-            b"[|] [a|] [|b] [a|b] [(,)|(,)]"
-        )
-    );
-    assert!(rt; gives(&rt, b"#define f(x) [x]\nf\n\n(1) f\n;", b"[1] f ;"));
-    assert!(rt;
-        gives(
-            &rt,
-            b"#define f(x) [x]\n#define g f\ng(1) g (2) (g)(3)",
-            b"[1] [2] (f)(3)"
-        )
-    );
-    assert!(rt; breaks(&rt, b"#define f(x) [x]\n\n f(a,b)", Rule::K38, 3));
-    assert!(rt; breaks(&rt, b"#define f() 1\nf(a)", Rule::K38, 2));
-    assert!(rt; breaks(&rt, b"#define f() 1\nf(,)", Rule::K38, 2));
-    assert!(rt; breaks(&rt, b"#define f(x,y) 1\nf()", Rule::K38, 2));
-    assert!(rt; breaks(&rt, b"#define f(x,y) 1\nf(1)", Rule::K38, 2));
-    assert!(rt; breaks(&rt, b"#define f(x) 1\nf(1\n", Rule::K38, 2));
-    assert!(rt; breaks(&rt, b"#define f(x) 1\nf((1)\n", Rule::K38, 2));
-    assert!(rt;
-        breaks(
-            &rt,
-            b"#define f(x) 1\n#define h f(\n#define g(x) x\n\ng(h 1)",
+    for (text, tokens) in [
+        (
+            b"#define f(x) [x]\nf() f( ) f(a) f((a,b)) f(\n a\n ) f".as_slice(),
+            b"[] [] [a] [(a,b)] [a] f".as_slice(),
+        ),
+        (
+            b"#define f() [ ]\nf() f( ) f\n(\n) f".as_slice(),
+            b"[] [] [] f".as_slice(),
+        ),
+        (
+            b"#define f(x,y) [x|y]\nf(,) f(a,) f(,b) f(a,b) f((,),(,))".as_slice(),
+            b"[|] [a|] [|b] [a|b] [(,)|(,)]".as_slice(),
+        ),
+        (
+            b"#define f(x) [x]\nf\n\n(1) f\n;".as_slice(),
+            b"[1] f ;".as_slice(),
+        ),
+        (
+            b"#define f(x) [x]\n#define g f\ng(1) g (2) (g)(3)".as_slice(),
+            b"[1] [2] (f)(3)".as_slice(),
+        ),
+    ] {
+        assert!(rt; gives(&rt, text, tokens));
+    }
+    for (text, rule, line) in [
+        (b"#define f(x) [x]\n\n f(a,b)".as_slice(), Rule::K38, 3),
+        (b"#define f() 1\nf(a)".as_slice(), Rule::K38, 2),
+        (b"#define f() 1\nf(,)".as_slice(), Rule::K38, 2),
+        (b"#define f(x,y) 1\nf()".as_slice(), Rule::K38, 2),
+        (b"#define f(x,y) 1\nf(1)".as_slice(), Rule::K38, 2),
+        (b"#define f(x) 1\nf(1\n".as_slice(), Rule::K38, 2),
+        (b"#define f(x) 1\nf((1)\n".as_slice(), Rule::K38, 2),
+        (
+            b"#define f(x) 1\n#define h f(\n#define g(x) x\n\ng(h 1)".as_slice(),
             Rule::K38,
-            5
-        )
-    );
+            5,
+        ),
+    ] {
+        assert!(rt; breaks(&rt, text, rule, line));
+    }
 }
 
 #[test]
 fn strings(rt: HostRuntime) {
-    assert!(rt;
-        gives(
-            &rt,
-            b"#define S(x) #x\nS() S(a) S( a  + b ) S(\"a\\n\") S('\"') S('\\\\')",
-            b"\"\" \"a\" \"a + b\" \"\\\"a\\\\n\\\"\" \"'\\\"'\" \"'\\\\\\\\'\""
-        )
-    );
-    assert!(rt;
-        gives(
-            &rt,
-            b"#define S(x) #x\n#define A 1\nS(A) S(S(A))\nS(a\n\n b)",
-            b"\"A\" \"S(A)\" \"a b\""
-        )
-    );
-    assert!(rt;
-        gives(
-            &rt,
-            b"#define S(x) #x\n#define T(x) S(x)\n#define A 1\nT(A) T(S(A)) T(__LINE__)",
-            b"\"1\" \"\\\"A\\\"\" \"4\""
-        )
-    );
-    assert!(rt;
-        gives(
-            &rt,
-            b"#define S(x) #x\n#define T(x) S([x] x)\n#define E\nT( a ) T(E) T([ E])",
-            b"\"[a] a\" \"[]\" \"[[ ]] [ ]\""
-        )
-    );
-    assert!(rt; gives(&rt, b"#define A #x\nA", b" #x"));
+    for (text, tokens) in [
+        (
+            b"#define S(x) #x\nS() S(a) S( a  + b ) S(\"a\\n\") S('\"') S('\\\\')".as_slice(),
+            b"\"\" \"a\" \"a + b\" \"\\\"a\\\\n\\\"\" \"'\\\"'\" \"'\\\\\\\\'\"".as_slice(),
+        ),
+        (
+            b"#define S(x) #x\n#define A 1\nS(A) S(S(A))\nS(a\n\n b)".as_slice(),
+            b"\"A\" \"S(A)\" \"a b\"".as_slice(),
+        ),
+        (
+            b"#define S(x) #x\n#define T(x) S(x)\n#define A 1\nT(A) T(S(A)) T(__LINE__)".as_slice(),
+            b"\"1\" \"\\\"A\\\"\" \"4\"".as_slice(),
+        ),
+        (
+            b"#define S(x) #x\n#define T(x) S([x] x)\n#define E\nT( a ) T(E) T([ E])".as_slice(),
+            b"\"[a] a\" \"[]\" \"[[ ]] [ ]\"".as_slice(),
+        ),
+        (b"#define A #x\nA".as_slice(), b" #x".as_slice()),
+    ] {
+        assert!(rt; gives(&rt, text, tokens));
+    }
 }
 
 #[test]
 fn pasting(rt: HostRuntime) {
-    assert!(rt;
-        gives(
-            &rt,
-            b"#define C(a,b) a##b\nC(1,2) C(,2) C(1,) C(,) C(a b,c d) C(+,+) C(.,5)",
-            b"12 2 1 a bc d ++ .5"
-        )
-    );
-    assert!(rt;
-        gives(
-            &rt,
-            b"#define C(a,b,c) x a##b##c y\nC(,,) C(1,,) C(,1,) C(,,1) C(1,2,3)",
-            b"x y x 1 y x 1 y x 1 y x 123 y"
-        )
-    );
-    assert!(rt;
-        gives(
-            &rt,
-            b"#define C(a,b) a##b\n#define A 1\n#define AB 2\n#define B 3\nC(A,B) C(A,) C(,A)",
-            b"2 1 1"
-        )
-    );
-    assert!(rt;
-        gives(
-            &rt,
-            b"#define L(x) L ## #x\nL(a) L(b c)",
-            b"L\"a\" L\"b c\""
-        )
-    );
-    assert!(rt; gives(&rt, b"#define A x ## y ## 1\nA", b"xy1"));
-    assert!(rt; gives(&rt, b"#define A(x) x ## x x\n#define y 1\nA(y)", b"yy 1"));
-    assert!(rt; breaks(&rt, b"#define C(a,b) a##b\n\nC(+,1)", Rule::K42, 3));
-    assert!(rt;
-        breaks(
-            &rt,
-            b"#define C(a,b) a##b\n#define D C(/,/)\n\nD",
+    for (text, tokens) in [
+        (
+            b"#define C(a,b) a##b\nC(1,2) C(,2) C(1,) C(,) C(a b,c d) C(+,+) C(.,5)".as_slice(),
+            b"12 2 1 a bc d ++ .5".as_slice(),
+        ),
+        (
+            b"#define C(a,b,c) x a##b##c y\nC(,,) C(1,,) C(,1,) C(,,1) C(1,2,3)".as_slice(),
+            b"x y x 1 y x 1 y x 1 y x 123 y".as_slice(),
+        ),
+        (
+            b"#define C(a,b) a##b\n#define A 1\n#define AB 2\n#define B 3\nC(A,B) C(A,) C(,A)".as_slice(),
+            b"2 1 1".as_slice(),
+        ),
+        (
+            b"#define L(x) L ## #x\nL(a) L(b c)".as_slice(),
+            b"L\"a\" L\"b c\"".as_slice(),
+        ),
+        (b"#define A x ## y ## 1\nA".as_slice(), b"xy1".as_slice()),
+        (
+            b"#define A(x) x ## x x\n#define y 1\nA(y)".as_slice(),
+            b"yy 1".as_slice(),
+        ),
+    ] {
+        assert!(rt; gives(&rt, text, tokens));
+    }
+    for (text, rule, line) in [
+        (b"#define C(a,b) a##b\n\nC(+,1)".as_slice(), Rule::K42, 3),
+        (
+            b"#define C(a,b) a##b\n#define D C(/,/)\n\nD".as_slice(),
             Rule::K42,
-            4
-        )
-    );
-    assert!(rt; breaks(&rt, b"#define A ( ## )\nA", Rule::K42, 2));
+            4,
+        ),
+        (b"#define A ( ## )\nA".as_slice(), Rule::K42, 2),
+    ] {
+        assert!(rt; breaks(&rt, text, rule, line));
+    }
 }
 
 #[test]
 fn a_pasted_token_is_hidden_from_what_both_are(rt: HostRuntime) {
-    assert!(rt; gives(&rt, b"#define AB A ## B\nAB", b"AB"));
-    assert!(rt; gives(&rt, b"#define C(a,b) a##b\n#define AB 1\nC(A,B)", b"1"));
-    assert!(rt;
-        gives(
-            &rt,
-            b"#define f(x) x ## f\n#define ff(x) [x]\nf(f)(1)",
-            b"[1]"
-        )
-    );
+    for (text, tokens) in [
+        (b"#define AB A ## B\nAB".as_slice(), b"AB".as_slice()),
+        (
+            b"#define C(a,b) a##b\n#define AB 1\nC(A,B)".as_slice(),
+            b"1".as_slice(),
+        ),
+        (
+            b"#define f(x) x ## f\n#define ff(x) [x]\nf(f)(1)".as_slice(),
+            b"[1]".as_slice(),
+        ),
+    ] {
+        assert!(rt; gives(&rt, text, tokens));
+    }
 }
 
 #[test]
 fn predefined_names(rt: HostRuntime) {
-    assert!(rt; gives(&rt, b"__LINE__ __STDC__\n__LINE__ __FILE__", b"1 1 2 \"\""));
-    assert!(rt;
-        gives(
-            &rt,
-            b"#define L __LINE__\n#define f(x) x L\nL f(\n__LINE__\n)",
-            b"3 4 3"
-        )
-    );
-    assert!(rt; breaks(&rt, b"\n__DATE__", Rule::L15, 2));
-    assert!(rt; breaks(&rt, b"#define D __TIME__\n\n D", Rule::L15, 3));
-    assert!(rt; gives(&rt, b"#define S(x) #x\nS(__DATE__)", b"\"__DATE__\""));
+    for (text, tokens) in [
+        (
+            b"__LINE__ __STDC__\n__LINE__ __FILE__".as_slice(),
+            b"1 1 2 \"\"".as_slice(),
+        ),
+        (
+            b"#define L __LINE__\n#define f(x) x L\nL f(\n__LINE__\n)".as_slice(),
+            b"3 4 3".as_slice(),
+        ),
+        (
+            b"#define S(x) #x\nS(__DATE__)".as_slice(),
+            b"\"__DATE__\"".as_slice(),
+        ),
+    ] {
+        assert!(rt; gives(&rt, text, tokens));
+    }
+    for (text, rule, line) in [
+        (b"\n__DATE__".as_slice(), Rule::L15, 2),
+        (b"#define D __TIME__\n\n D".as_slice(), Rule::L15, 3),
+    ] {
+        assert!(rt; breaks(&rt, text, rule, line));
+    }
 }
 
 #[test]
@@ -540,6 +566,101 @@ fn defined_names(rt: HostRuntime) -> Result<(), Fail> {
         !unit
             .macros
             .is_defined(&Bytes::from_slice(alloc, b"defined")?)
+    );
+    Ok(())
+}
+
+/// A text in which a number stands between two others.
+fn numbered(alloc: Global, head: &str, number: u32, tail: &str) -> Result<String, Refused> {
+    Ok(format!(in alloc; "{head}{number}{tail}")?)
+}
+
+#[test]
+fn a_chain_of_macros_is_followed_to_its_end(rt: HostRuntime) -> Result<(), Fail> {
+    let alloc = rt.alloc();
+    let mut unit = Unit::new(alloc)?;
+    for number in 0..2000u32 {
+        let line = format!(in alloc; "#define A{} A{number}", number + 1)?;
+        unit.take(line.as_bytes(), 1)?;
+    }
+    unit.take(b"A2000 A2000", 2)?;
+    unit.flush()?;
+    assert_eq!(rt; unit.out.as_slice(), b"A0 A0 ".as_slice());
+    Ok(())
+}
+
+#[test]
+fn calls_nest_as_deep_as_the_text(rt: HostRuntime) -> Result<(), Fail> {
+    let alloc = rt.alloc();
+    let mut unit = Unit::new(alloc)?;
+    let mut text = Vec::new(alloc);
+    for number in 0..2000u32 {
+        unit.take(numbered(alloc, "#define F", number, "(x) x")?.as_bytes(), 1)?;
+        text.extend_from_slice(numbered(alloc, "F", number, "(")?.as_bytes())?;
+    }
+    text.push(b'7')?;
+    for _ in 0..2000 {
+        text.push(b')')?;
+    }
+    unit.take(text.as_slice(), 2)?;
+    unit.flush()?;
+    assert_eq!(rt; unit.out.as_slice(), b"7 ".as_slice());
+    Ok(())
+}
+
+#[test]
+fn many_macros_are_each_used_once(rt: HostRuntime) -> Result<(), Fail> {
+    let alloc = rt.alloc();
+    let mut unit = Unit::new(alloc)?;
+    for number in 0..20000u32 {
+        unit.take(numbered(alloc, "#define M", number, " + 1")?.as_bytes(), 1)?;
+    }
+    for number in 0..20000u32 {
+        unit.take(numbered(alloc, "M", number, "")?.as_bytes(), 2)?;
+    }
+    unit.flush()?;
+    assert_eq!(rt; unit.before, 40000);
+    Ok(())
+}
+
+/// Macros D1 to D20 that give 2 to 2^20 tokens.
+fn doubling(alloc: Global) -> Result<Unit, Refused> {
+    let mut unit = Unit::new(alloc)?;
+    unit.take(b"#define D0 x", 1)?;
+    for number in 0..20u32 {
+        let line = format!(in alloc; "#define D{} D{number} D{number}", number + 1)?;
+        unit.take(line.as_bytes(), 1)?;
+    }
+    Ok(unit)
+}
+
+#[test]
+fn a_unit_has_at_most_so_many_tokens(rt: HostRuntime) -> Result<(), Fail> {
+    let alloc = rt.alloc();
+    let mut unit = doubling(alloc)?;
+    unit.take(b"D20", 2)?;
+    unit.take(b"", 3)?;
+    unit.flush()?;
+    assert_eq!(rt; unit.before, 1 << 20);
+    unit.take(b"", 4)?;
+    unit.flush()?;
+    unit.take(b"x", 5)?;
+    let refused = unit.flush();
+    assert!(rt;
+        matches!(refused, Err(Refused::Broken(broken)) if broken.rule == Rule::L10 && broken.place.line == 5)
+    );
+    Ok(())
+}
+
+#[test]
+fn the_first_token_too_many_is_told(rt: HostRuntime) -> Result<(), Fail> {
+    let mut unit = doubling(rt.alloc())?;
+    unit.take(b"D19 D18 D18", 2)?;
+    unit.take(b"D1", 3)?;
+    unit.take(b"D1", 4)?;
+    let refused = unit.flush();
+    assert!(rt;
+        matches!(refused, Err(Refused::Broken(broken)) if broken.rule == Rule::L10 && broken.place.line == 3)
     );
     Ok(())
 }

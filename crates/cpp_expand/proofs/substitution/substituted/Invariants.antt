@@ -1,5 +1,5 @@
 use Rattle.std.proofs.Common.{length}
 use Rattle.cpp_expand.proofs.substitution.substituted.Given as goal
 
-abbrev pub decreases-loop-rest : goal.decreases-loop-rest
-decreases-loop-rest l = length l.rest
+abbrev pub decreases-loop-site : goal.decreases-loop-site
+decreases-loop-site l = length l.rest

@@ -1,5 +1,5 @@
 use Rattle.std.proofs.Common.{length, ◌≤◌}
-use Rattle.cpp_expand.proofs.substitution.Substitution.pastes.Given as goal
+use Rattle.cpp_expand.proofs.substitution.Site.pastes.Given as goal
 
 abbrev pub invariant-loop-rest : goal.invariant-loop-rest
 invariant-loop-rest l = length l.rest ≤ length l.body
