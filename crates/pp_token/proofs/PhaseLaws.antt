@@ -1,5 +1,5 @@
 -- Phase 3 piece by piece.
-use Rattle.std.proofs.Common.{◌≡◌, ℕ, zero, suc, ◌+◌, ◌-◌, ◌<◌, Bool, List, [], ◌∷◌, ◌++◌, length, drop, slice_index, Result, Ok, Err, refl, sym, ap, ◌∙◌, subst, arith}
+use Rattle.std.proofs.Common.{◌≡◌, ℕ, zero, suc, ◌-◌, ◌<◌, Bool, List, [], ◌∷◌, length, drop, slice_index, Result, refl, sym, ap, ◌∙◌, arith}
 use Rattle.fsc_base.specs.declared.place.Broken.{Broken}
 use Rattle.fsc_base.specs.declared.place.Refused.{Refused}
 use Rattle.fsc_base.specs.declared.place.Refused.TheVariants as refusals
@@ -7,9 +7,8 @@ use Rattle.pp_token.specs.declared.token.PpToken.{PpToken}
 use Rattle.pp_token.specs.declared.piece.Spot.{Spot}
 use Rattle.pp_token.specs.declared.piece.Piece.{Piece}
 use Rattle.pp_token.specs.declared.reading.Source.{Source}
-use Rattle.pp_token.specs.declared.reading.Reader.{Reader}
-use Rattle.pp_token.specs.Tokens.{piece_at, length_of, is_space, spot_behind, given, phase_3, Gives}
-use Rattle.pp_token.specs.Stepping.{gathered, all_of, Refuses}
+use Rattle.pp_token.specs.Tokens.{piece_at, length_of, is_space, spot_behind, given, phase_3}
+use Rattle.pp_token.specs.Stepping.{gathered, Refuses}
 
 drop_nil : (k : ℕ) → drop k (let none : List ℕ = [] in none) ≡ []
 drop_nil zero = refl

@@ -1,5 +1,5 @@
 -- Phase 3 piece by piece.
-use Rattle.std.specs.Prelude.{◌≡◌, ℕ, ◌⊎◌, Bool, true, false, List, [], ◌∷◌, ◌++◌, length, Option, Some, None, Result, Ok, Err}
+use Rattle.std.specs.Prelude.{◌≡◌, ℕ, ◌⊎◌, ◌<◌, ◌==◌, slice_index, Bool, true, false, List, [], ◌∷◌, ◌++◌, length, None, Result, Ok, Err}
 use Rattle.fsc_base.specs.declared.place.Broken.{Broken}
 use Rattle.fsc_base.specs.declared.place.Refused.{Refused}
 use Rattle.fsc_base.specs.declared.place.Refused.TheVariants as refusals
@@ -8,8 +8,15 @@ use Rattle.pp_token.specs.declared.piece.Unclosed.{Unclosed}
 use Rattle.pp_token.specs.declared.spelling.Quote.{Quote}
 use Rattle.pp_token.specs.declared.spelling.Quote.TheVariants.{Single, Double}
 use Rattle.pp_token.specs.declared.reading.Reader.{Reader}
+use Rattle.pp_token.specs.Spelling.{is_blank}
 use Rattle.pp_token.specs.Scanning.{closing}
 use Rattle.pp_token.specs.Tokens.{phase_3}
+
+-- what begins with a character that is no white space
+pub record IsMark (text : List ℕ) : Type 0 where
+  pub some : 0 < length text
+  pub no_blank : is_blank (slice_index text 0) ≡ false
+  pub no_end : (slice_index text 0 == 10) ≡ false
 
 -- no such quote on this line is closed
 abbrev pub AllOpen : ℕ → List ℕ → Type 0

@@ -1,5 +1,5 @@
 -- Phase 3: from characters to preprocessing tokens (C90 5.1.1.2 and 6.1).
-use Rattle.std.specs.Prelude.{◌≡◌, ℕ, zero, suc, ◌+◌, ◌-◌, ◌^◌, ◌==◌, ◌&&◌, Bool, true, false, List, [], ◌∷◌, ◌++◌, length, take, drop, slice_index, codes, nat_lt, Option, Some, None, Result, Ok, Err, if◌then◌else◌}
+use Rattle.std.specs.Prelude.{◌≡◌, ℕ, zero, suc, ◌+◌, ◌-◌, ◌^◌, ◌==◌, ◌&&◌, Bool, true, false, List, [], ◌∷◌, length, take, drop, slice_index, codes, nat_lt, Option, Some, None, Result, Ok, Err, if◌then◌else◌}
 use Rattle.std.specs.Str.{bytes_eq}
 use Rattle.fsc_base.specs.declared.place.Place.{Place}
 use Rattle.fsc_base.specs.declared.place.Broken.{Broken}
@@ -16,8 +16,8 @@ use Rattle.pp_token.specs.declared.piece.Piece.{Piece}
 use Rattle.pp_token.specs.declared.piece.Piece.TheVariants.{Blank, OpenComment, LineEnd, Token}
 use Rattle.pp_token.specs.declared.reading.Source.{Source}
 use Rattle.pp_token.specs.Characters.{bytes_of, lines_of, characters_of, end_of}
-use Rattle.pp_token.specs.Spelling.{is_blank}
-use Rattle.pp_token.specs.Scanning.{front, header_at, comment_rest}
+use Rattle.pp_token.specs.Spelling.{is_blank, longest_token, longest_header}
+use Rattle.pp_token.specs.Scanning.{comment_rest}
 
 abbrev pub is_after_include : Spot → Bool
 is_after_include LineStart = false
@@ -25,13 +25,13 @@ is_after_include AfterHash = false
 is_after_include AfterInclude = true
 is_after_include Within = false
 
-abbrev pub or_front : Option Found → List ℕ → Found
-or_front None text = front text
-or_front (Some found) text = found
+abbrev pub or_token : Option Found → List ℕ → Found
+or_token None text = longest_token text
+or_token (Some found) text = found
 
--- the token at the front: directly after include in a directive a header name, where one is there
+-- the token at the front, the longest one; directly after include in a directive a header name, where one is there
 unfoldable pub token_at : Spot → List ℕ → Found
-token_at spot text = if is_after_include spot then or_front (header_at text) text else front text
+token_at spot text = if is_after_include spot then or_token (longest_header text) text else longest_token text
 
 abbrev pub begins_comment : List ℕ → Bool
 begins_comment [] = false

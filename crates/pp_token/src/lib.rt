@@ -10,8 +10,8 @@ mod token;
 mod unit;
 
 pub use hide_set::HideSet;
+pub use piece::kind_of;
 pub use reading::pp_tokens;
-pub use spelling::kind_of;
 pub use token::{PpKind, PpToken, PpTokens};
 pub use unit::{Names, PpUnit};
 
