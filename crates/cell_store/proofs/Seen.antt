@@ -1,5 +1,5 @@
 -- What is kept, for a store as contracts see it.
-use Rattle.std.proofs.Common.{◌≡◌, ℕ, ◌+◌, ◌*◌, ◌/◌, ◌%◌, ◌^◌, ◌<◌, ◌≤◌, List, length, refl, sym, ap, ◌∙◌, arith, subst, [], replicate, lit≤}
+use Rattle.std.proofs.Common.{◌≡◌, ℕ, ◌+◌, ◌*◌, ◌/◌, ◌%◌, ◌^◌, ◌<◌, ◌≤◌, List, length, refl, sym, ap, ◌∙◌, arith, subst, [], replicate, lit≤, ◌≢◌, ◌⊎◌, inl, inr}
 use Rattle.std.specs.Prelude.{slice_index_or, slice_set}
 use Rattle.std.proofs.lemmas.List.{get_or_read, get_or-replicate}
 use Rattle.std.proofs.lemmas.Nat.{pow_pos}
@@ -8,9 +8,11 @@ use Rattle.block_header.specs.Headers.{header_at, first_word}
 use Rattle.c_memory.specs.Blocks.{words_of}
 use Rattle.c_memory.specs.Storage.{class_of, live_in, next_base}
 use Rattle.cell_store.specs.Pools.{FreeList, Pool, cell_size, free_of, with_freed}
-use Rattle.cell_store.specs.Store.{Store, cell_place, header_in, IsLiveIn, IsMade}
+use Rattle.cell_store.specs.Store.{Store, cell_place, header_in, IsLiveIn, IsMade, IsOrderly}
 use Rattle.cell_store.specs.Making.{told_in}
-use Rattle.cell_store.specs.Kept.{HasCell, IsFree, Kept}
+use Rattle.cell_store.specs.Kept.{Apart, HasCell, IsFree, Kept, cell_size_in}
+use Rattle.cell_store.specs.StandsFor.{LiesIn}
+use Rattle.cell_store.proofs.Classes.{class_large}
 use Rattle.cell_store.proofs.Counts.{bytes_none}
 use Rattle.cell_store.proofs.Dropping.{emptied, free_room, kept_dropped}
 use Rattle.cell_store.proofs.Fitting.{seen}
@@ -63,6 +65,47 @@ module _ (words : List ℕ) (made : ℕ) (pool : Pool) (base : ℕ) (kept : Kept
       get_or_read words (cell / 4 + i) word (index_within i cell (length words) live within e refl) read 0
       ∙ ap (λ n. slice_index_or words (n / 4 + i) 0) e
       ∙ ap (λ l. slice_index_or l (cell_place store b i) 0) (sym same)
+
+-- ---- order
+
+apart_words : (p q m n x y : ℕ) → 8 * x ≤ m → 8 * y ≤ n → Apart p m q n → (p + 8 * x ≤ q) ⊎ (q + 8 * y ≤ p)
+apart_words p q m n x y h k (inl before) = inl (omega arith)
+apart_words p q m n x y h k (inr behind) = inr (omega arith)
+
+module _ (words : List ℕ) (made : ℕ) (pool : Pool) (base : ℕ) (kept : Kept words made pool base) where
+  large : (b : ℕ) → HasCell words made b → 8 * words_of (header_at words b).size ≤ cell_size_in words b
+  large b has = class_large (header_at words b).size (kept.sizes b has)
+
+  size_same : (b : ℕ) → words_of (header_in (seen words made pool) b).size ≡ words_of (header_at words b).size
+  size_same b = ap words_of (size_of words b)
+
+  orderly_inside : (b : ℕ) → HasCell words made b
+      → LiesIn 0 (4 * length words) made (header_in (seen words made pool) b).cell (2 * words_of (header_in (seen words made pool) b).size)
+  orderly_inside b has =
+      let is = kept.cells b has in
+      let cell = cell_of words b in
+      record {
+        aligned = rw cell is.aligned;
+        behind = omega (arith, cell, is.above, kept.front);
+        within = omega (arith, cell, size_same b, is.within, large b has);
+      }
+
+  orderly_apart : (b c : ℕ) → HasCell words made b → HasCell words made c → b ≢ c
+      → ((header_in (seen words made pool) b).cell + 8 * words_of (header_in (seen words made pool) b).size ≤ (header_in (seen words made pool) c).cell)
+      ⊎ ((header_in (seen words made pool) c).cell + 8 * words_of (header_in (seen words made pool) c).size ≤ (header_in (seen words made pool) b).cell)
+  orderly_apart b c has also differs =
+      rw (cell_of words b, cell_of words c, size_same b, size_same c)
+      (apart_words (header_at words b).cell (header_at words c).cell (cell_size_in words b) (cell_size_in words c) (words_of (header_at words b).size) (words_of (header_at words c).size)
+      (large b has) (large c also) (kept.cells_apart b c has also differs))
+
+  pub orderly : (store : Store) → seen words made pool ≡ store → IsOrderly store
+  orderly store is =
+      subst IsOrderly is (record {
+        inside = λ b live. orderly_inside b (live_has_cell (seen words made pool) b live);
+        apart = λ b c live also differs. orderly_apart b c (live_has_cell (seen words made pool) b live) (live_has_cell (seen words made pool) c also) differs;
+      })
+
+-- ---- none
 
 room_empty : (n bytes class : ℕ) → n ≡ bytes → n < cell_size class * (bytes / cell_size class + 1)
 room_empty n bytes class e = rw e (lt-mul-div-succ bytes (omega (arith, pow_pos class)))

@@ -1,9 +1,9 @@
 -- What a store holds, as contracts see it.
-use Rattle.std.specs.Prelude.{◌≡◌, ℕ, ◌+◌, ◌*◌, ◌-◌, ◌/◌, ◌≤◌, List, length, slice_set, slice_index_or}
-use Rattle.c_memory.specs.Blocks.{Heap}
+use Rattle.std.specs.Prelude.{◌≡◌, ◌≢◌, ℕ, ◌+◌, ◌*◌, ◌-◌, ◌/◌, ◌≤◌, ◌⊎◌, List, length, slice_set, slice_index_or}
+use Rattle.c_memory.specs.Blocks.{Heap, words_of}
 use Rattle.c_memory.specs.Sound.{IsHeap}
 use Rattle.cell_store.specs.Layouts.{Layouts}
-use Rattle.cell_store.specs.StandsFor.{Memory, HeaderWords, header_of, StandsFor}
+use Rattle.cell_store.specs.StandsFor.{Memory, HeaderWords, header_of, LiesIn, StandsFor}
 
 -- the words of a region, how many blocks were made in it, and for each class the greatest number of its blocks that were
 -- live at once
@@ -29,6 +29,14 @@ pub record IsMade (store : Store) (block : ℕ) : Type 0 where
 pub record IsLiveIn (store : Store) (block : ℕ) : Type 0 where
   pub made : IsMade store block
   pub object : 2 ≤ (header_in store block).desc
+
+-- the cells of live objects lie in the region, behind all headers, and no two have a word in common
+pub record IsOrderly (store : Store) : Type 0 where
+  pub inside : (b : ℕ) → IsLiveIn store b →
+      LiesIn 0 (4 * length store.words) store.made (header_in store b).cell (2 * words_of (header_in store b).size)
+  pub apart : (b c : ℕ) → IsLiveIn store b → IsLiveIn store c → b ≢ c →
+      ((header_in store b).cell + 8 * words_of (header_in store b).size ≤ (header_in store c).cell)
+      ⊎ ((header_in store c).cell + 8 * words_of (header_in store c).size ≤ (header_in store b).cell)
 
 -- the place among the store's words of word i of a block's cell
 abbrev pub cell_place : Store → (block i : ℕ) → ℕ

@@ -7,7 +7,7 @@ ghost use Rattle.c_memory.specs.declared.kind.BlockKind.{BlockKind};
 ghost use Rattle.cell_store.specs.Held.{HoldsCreated, HoldsDecided, HoldsKilled, HoldsNone, HoldsSealed};
 ghost use Rattle.cell_store.specs.Layouts.{Layouts};
 ghost use Rattle.cell_store.specs.Making.{without_cell, Clears, Makes, Puts, StoreFits};
-ghost use Rattle.cell_store.specs.Store.{cell_place, header_in, with_cell_word, with_desc, Holds, IsLiveIn, IsMade};
+ghost use Rattle.cell_store.specs.Store.{cell_place, header_in, with_cell_word, with_desc, Holds, IsLiveIn, IsMade, IsOrderly};
 
 use crate::cell_pool::CellPool;
 use crate::size::{class_of, span, words_of};
@@ -74,9 +74,10 @@ impl CellStore {
         read_header(self.words.as_slice(), block)
     }
 
-    /// All words of the region.
+    /// All words of the region. The cells of live objects lie in it behind all headers, and none overlaps another.
     pub fn words(&self) -> &[u32]
-        ensures { result.now ≡ self.now.words }
+        ensures value { result.now ≡ self.now.words }
+        ensures orderly { IsOrderly self.now }
     {
         self.words.as_slice()
     }

@@ -1,0 +1,4 @@
+pub mod Directives
+pub mod Outside
+pub mod Progress
+pub mod Stops

@@ -1,0 +1,95 @@
+//! The line `#line` (C90 6.8.4).
+
+use crate::directive::operands;
+use crate::header_name::copies;
+use crate::refusal::broken;
+use cpp_cond::first_character;
+use cpp_expand::Macros;
+use fsc_base::{Name, Place, Refused, Rule};
+use pp_token::{PpKind, PpToken};
+use std::alloc::Global;
+
+/// The greatest number of a `#line` line.
+const MOST: u64 = 2_147_483_647;
+
+/// What a `#line` line says.
+#[derive(Debug, Drop)]
+pub struct LineNumber {
+    /// The number of the next line, from 1 to 2147483647.
+    pub number: u32,
+    /// The file's name from there on, where the line has one.
+    pub name: Option<Name>,
+}
+
+/// The decimal number that the digits spell, where it is from 1 to 2147483647.
+fn line_number(digits: &[u8]) -> Option<u32> {
+    let mut number: u64 = 0;
+    for digit in digits {
+        if !digit.is_ascii_digit() {
+            return None;
+        }
+        number = number
+            .saturating_mul(10)
+            .saturating_add(u64::from(*digit - b'0'));
+    }
+    if (1..=MOST).contains(&number) {
+        u32::try_from(number).ok()
+    } else {
+        None
+    }
+}
+
+/// What stands between the quotes of a string literal, escape sequences read. None where it is wide or has an escape
+/// sequence that is none.
+fn string_content(alloc: Global, text: &[u8]) -> Result<Option<Name>, Refused> {
+    let [b'"', inner @ .., b'"'] = text else {
+        return Ok(None);
+    };
+    let mut name = Vec::new(alloc);
+    let mut rest = inner;
+    while !rest.is_empty() {
+        let Ok((byte, behind)) = first_character(rest) else {
+            return Ok(None);
+        };
+        name.push(byte)?;
+        rest = behind;
+    }
+    Ok(Some(Name::from_vec(name)))
+}
+
+/// What expanded operands of `#line` say, or None where they are no number with an optional string.
+fn read(alloc: Global, tokens: &[PpToken]) -> Result<Option<LineNumber>, Refused> {
+    let (digits, string) = match tokens {
+        [digits] => (digits, None),
+        [digits, string] if string.kind == PpKind::Str => (digits, Some(string)),
+        _ => return Ok(None),
+    };
+    if digits.kind != PpKind::Number {
+        return Ok(None);
+    }
+    let Some(number) = line_number(digits.text.as_slice()) else {
+        return Ok(None);
+    };
+    match string {
+        None => Ok(Some(LineNumber { number, name: None })),
+        Some(string) => match string_content(alloc, string.text.as_slice())? {
+            None => Ok(None),
+            Some(name) => Ok(Some(LineNumber {
+                number,
+                name: Some(name),
+            })),
+        },
+    }
+}
+
+/// What a `#line` line with its `#` at `hash` says after expansion. Refused by K39 where it is no number with an
+/// optional string, or as expansion is.
+pub fn numbered(
+    alloc: Global,
+    line: &[PpToken],
+    macros: &Macros,
+    hash: Place,
+) -> Result<LineNumber, Refused> {
+    let expanded = macros.expand(&copies(alloc, operands(line))?, 0)?;
+    read(alloc, expanded.as_slice())?.ok_or(broken(Rule::K39, hash))
+}
