@@ -1,5 +1,5 @@
 -- The token at the front of a text, read from left to right.
-use Rattle.std.specs.Prelude.{ℕ, length, nat_lt, slice_index, ◌+◌, ◌==◌, ◌&&◌, ◌||◌, Bool, true, false, not, List, [], ◌∷◌, Option, Some, None, if◌then◌else◌}
+use Rattle.std.specs.Prelude.{ℕ, ◌+◌, ◌==◌, ◌&&◌, Bool, true, false, not, List, [], ◌∷◌, Option, Some, None, if◌then◌else◌}
 use Rattle.std.specs.List.{prefix_len}
 use Rattle.std.specs.Char.{is_ascii_digit}
 use Rattle.pp_token.specs.declared.token.PpKind.{PpKind}
@@ -8,7 +8,7 @@ use Rattle.pp_token.specs.declared.spelling.Found.{Found}
 use Rattle.pp_token.specs.declared.spelling.Quote.{Quote}
 use Rattle.pp_token.specs.declared.spelling.Quote.TheVariants.{Single, Double}
 use Rattle.pp_token.specs.declared.spelling.Opening.{Opening}
-use Rattle.pp_token.specs.Spelling.{is_nondigit, is_name_character, number_goes_on, is_blank, is_punctuator_of_1, is_punctuator_of_2, is_punctuator_of_3}
+use Rattle.pp_token.specs.Spelling.{is_nondigit, is_name_character, number_goes_on, is_punctuator_of_1, is_punctuator_of_2, is_punctuator_of_3}
 
 -- how many characters at the front are an identifier
 unfoldable pub name_length : List ℕ → ℕ
@@ -113,20 +113,10 @@ or_plain (Some found) text = found
 unfoldable pub front : List ℕ → Found
 front text = or_plain (quoted_at text) text
 
--- the kind of the token that all of the text is
-unfoldable pub kind_of : List ℕ → Option PpKind
-kind_of [] = None
-kind_of (c ∷ cs) = if is_blank c || c == 10 then None else (if (front (c ∷ cs)).length == length (c ∷ cs) then Some (front (c ∷ cs)).kind else None)
-
--- what a header name has between its delimiters
-abbrev pub is_in_header : ℕ → ℕ → Bool
-is_in_header close c = not (c == close) && not (c == 10)
-
 -- how many characters up to and with the delimiter that closes a header name on this line, behind one at least
-unfoldable pub header_rest : ℕ → List ℕ → Option ℕ
-header_rest close text =
-    let n = prefix_len (is_in_header close) text in
-    if nat_lt 0 n && (nat_lt n (length text) && slice_index text n == close) then Some (n + 1) else None
+abbrev pub header_rest : ℕ → Bool → List ℕ → Option ℕ
+header_rest close some [] = None
+header_rest close some (c ∷ cs) = if c == 10 then None else (if c == close then (if some then Some 1 else None) else further 1 (header_rest close true cs))
 
 abbrev pub header_found : Option ℕ → Option Found
 header_found None = None
@@ -135,7 +125,7 @@ header_found (Some n) = Some (record { kind = kinds.Header; length = 1 + n })
 -- the header name at the front
 unfoldable pub header_at : List ℕ → Option Found
 header_at [] = None
-header_at (c ∷ cs) = if c == 60 then header_found (header_rest 62 cs) else (if c == 34 then header_found (header_rest 34 cs) else None)
+header_at (c ∷ cs) = if c == 60 then header_found (header_rest 62 false cs) else (if c == 34 then header_found (header_rest 34 false cs) else None)
 
 -- how many characters up to and with the */ that closes a comment; a * may stand just before
 abbrev pub comment_rest : Bool → List ℕ → Option ℕ

@@ -1,10 +1,11 @@
 //! What stands at the front of a text: white space, a comment, the end of a line or a token.
 
-ghost use Rattle.std.specs.Prelude.{◌≡◌, ◌≤◌, ◌<◌, length, IfSome, false, take};
+ghost use Rattle.std.specs.Prelude.{◌≡◌, ◌≤◌, ◌<◌, ◌++◌, ◌↔◌, IsTrue, length, IfSome, false, take};
 ghost use Rattle.std.specs.List.{prefix_len};
+ghost use Rattle.pp_token.specs.Spelling as words;
 ghost use Rattle.pp_token.specs.Scanning as scanning;
 ghost use Rattle.pp_token.specs.Tokens as phase;
-ghost use Rattle.pp_token.specs.Stepping.{Knows, is_marked, marked};
+ghost use Rattle.pp_token.specs.Stepping.{IsMark, Knows, is_marked, marked, nothing};
 
 use crate::spelling::{Found, Quote, is_blank, opening_at, plain, quoted};
 use crate::token::PpKind;
@@ -46,13 +47,24 @@ pub struct Unclosed {
 impl Unclosed {
     /// Nothing is known.
     pub fn none() -> Unclosed
-        ensures single { result.single ≡ false }
-        ensures double { result.double ≡ false }
+        ensures { result ≡ nothing }
     {
         Unclosed {
             single: false,
             double: false,
         }
+    }
+
+    /// What is known behind these characters: nothing where a line ended there.
+    #[tactic(auto, using(crate::proofs::UnclosedLaws::knows_behind))]
+    pub fn behind(self, passed: &[u8], rest: &[u8]) -> Unclosed
+        requires { Knows self (passed.now ++ rest.now) }
+        ensures { Knows result rest.now }
+    {
+        if passed.contains(&b'\n') {
+            return Unclosed::none();
+        }
+        self
     }
 }
 
@@ -107,26 +119,26 @@ fn comment_rest(text: &[u8]) -> Option<usize>
     None
 }
 
-/// How many characters a header name can go on with, up to `close`.
-fn header_length(close: u8, text: &[u8]) -> usize
-    ensures length { result ≡ prefix_len (scanning.is_in_header close) text.now }
-    ensures within { result ≤ length text.now }
-{
-    text.iter().take_while(|c| **c != close && **c != b'\n').count()
-}
-
 /// How many characters up to and with `close`, which stands on this line behind at least one character.
-#[tactic(auto, unfolding(crate::specs::Scanning::header_rest))]
 fn header_rest(close: u8, text: &[u8]) -> Option<usize>
-    ensures length { result ≡ scanning.header_rest close text.now }
+    ensures length { result ≡ scanning.header_rest close false text.now }
     ensures within { IfSome result (λ n. n ≤ length text.now) }
 {
-    let length = header_length(close, text);
-    if length > 0 && length < text.len() && text[length] == close {
-        Some(length + 1)
-    } else {
-        None
+    let mut some = false;
+    let mut length = 0;
+    let mut rest = text;
+    while let [c, behind @ ..] = rest {
+        if *c == b'\n' {
+            return None;
+        }
+        length += 1;
+        if *c == close {
+            return some.then_some(length);
+        }
+        some = true;
+        rest = behind;
     }
+    None
 }
 
 /// The header name at the front (C90 6.1.7).
@@ -139,11 +151,17 @@ fn header(text: &[u8]) -> Option<Found>
     match text {
         [b'<', behind @ ..] => {
             let rest = header_rest(b'>', behind)?;
-            Some(Found { kind: PpKind::Header, length: 1 + rest })
+            Some(Found {
+                kind: PpKind::Header,
+                length: 1 + rest,
+            })
         }
         [b'"', behind @ ..] => {
             let rest = header_rest(b'"', behind)?;
-            Some(Found { kind: PpKind::Header, length: 1 + rest })
+            Some(Found {
+                kind: PpKind::Header,
+                length: 1 + rest,
+            })
         }
         _ => None,
     }
@@ -193,7 +211,7 @@ fn quoted_front(text: &[u8], unclosed: &mut Unclosed) -> Option<Found>
     }
 }
 
-/// The longest token at the front that is no header name.
+/// The token at the front that is no header name, read from left to right.
 #[tactic(auto, unfolding(crate::specs::Scanning::front))]
 fn front(text: &[u8], unclosed: &mut Unclosed) -> Found
     requires some { 0 < length text.now }
@@ -209,10 +227,23 @@ fn front(text: &[u8], unclosed: &mut Unclosed) -> Found
     }
 }
 
-/// The longest token at the front.
-#[tactic(auto, unfolding(crate::specs::Tokens::token_at))]
+/// The longest token at the front that is no header name, where no white space stands there.
+#[tactic(auto, using(crate::proofs::TokenLaws::front_longest))]
+fn longest(text: &[u8], unclosed: &mut Unclosed) -> Found
+    requires some { IsMark text.now }
+    requires known { Knows unclosed.old text.now }
+    ensures found { result ≡ words.longest_token text.now }
+    ensures known { Knows unclosed.new text.now }
+    ensures within { result.length ≤ length text.now }
+    ensures some { 0 < result.length }
+{
+    front(text, unclosed)
+}
+
+/// The longest token at the front, where no white space stands there.
+#[tactic(auto, unfolding(crate::specs::Tokens::token_at), using(crate::proofs::HeaderLaws::header_longest, crate::proofs::HeaderLaws::header_none))]
 fn token(text: &[u8], spot: Spot, unclosed: &mut Unclosed) -> Found
-    requires some { 0 < length text.now }
+    requires some { IsMark text.now }
     requires known { Knows unclosed.old text.now }
     ensures found { result ≡ phase.token_at spot text.now }
     ensures known { Knows unclosed.new text.now }
@@ -220,11 +251,11 @@ fn token(text: &[u8], spot: Spot, unclosed: &mut Unclosed) -> Found
     ensures some { 0 < result.length }
 {
     if spot != Spot::AfterInclude {
-        return front(text, unclosed);
+        return longest(text, unclosed);
     }
     match header(text) {
         Some(found) => found,
-        None => front(text, unclosed),
+        None => longest(text, unclosed),
     }
 }
 
@@ -246,5 +277,32 @@ pub fn piece_at(text: &[u8], spot: Spot, unclosed: &mut Unclosed) -> Piece
         [b'\n', ..] => Piece::LineEnd,
         [c, ..] if is_blank(*c) => Piece::Blank(1),
         _ => Piece::Token(token(text, spot, unclosed)),
+    }
+}
+
+/// Whether it begins with a character that is no white space.
+fn begins_with_mark(text: &[u8]) -> bool
+    ensures { IsTrue result ↔ IsMark text.now }
+{
+    match text {
+        [] => false,
+        [c, ..] => !is_blank(*c) && *c != b'\n',
+    }
+}
+
+/// The kind of the one preprocessing token that all of `text` spells, outside of an `#include` line. None where it is
+/// none: for no character, for several tokens, for white space. Never Header, LineEnd or End.
+#[tactic(auto, using(crate::proofs::KindLaws::kind_of_white, crate::proofs::KindLaws::kind_of_longest, crate::proofs::KindLaws::kind_of_shorter))]
+pub fn kind_of(text: &[u8]) -> Option<PpKind>
+    ensures { result ≡ words.kind_of text.now }
+{
+    if !begins_with_mark(text) {
+        return None;
+    }
+    let found = longest(text, &mut Unclosed::none());
+    if found.length == text.len() {
+        Some(found.kind)
+    } else {
+        None
     }
 }
