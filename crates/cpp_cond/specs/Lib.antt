@@ -1,1 +1,4 @@
-pub mod Rules
+pub mod Causes
+pub mod Conditions
+pub mod Expressions
+pub mod Values

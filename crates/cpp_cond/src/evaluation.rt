@@ -1,7 +1,9 @@
 //! Controlling expressions: integral constant expressions (C90 6.4 and 6.8.1) by precedence, without recursion.
 
 ghost use Rattle.std.specs.Prelude.{◌≡◌, ◌<◌, IfErr, IfSome, vec_len};
-ghost use Rattle.cpp_cond.specs.Rules.{IsTermRule, RefusesBy};
+ghost use Rattle.cpp_cond.specs.Causes.{OfTerm};
+ghost use Rattle.cpp_cond.specs.Values.{choice_of};
+ghost use Rattle.cpp_expand.specs.Causes.{Refuses};
 
 use crate::operator::{Binary, Level, Unary};
 use crate::term::{Term, no_expression, read_term};
@@ -55,11 +57,13 @@ impl Pending {
 }
 
 /// The choice of `?:` after the usual conversions of both.
-fn choice(condition: bool, first: Value, second: Value) -> Value {
+fn choice(condition: bool, first: Value, second: Value) -> Value
+    ensures { result ≡ choice_of condition first second }
+{
     if condition {
-        first.converted_with(second)
+        first.joint(second, first.bits)
     } else {
-        second.converted_with(first)
+        first.joint(second, second.bits)
     }
 }
 
@@ -100,7 +104,7 @@ impl Evaluation {
     /// The value of a construct with its last operand. Refused by K35 where it is evaluated and divides by zero.
     fn completed(&mut self, pending: Pending, last: Value) -> Result<Value, Refused>
         ensures kept { self.new.pending ≡ self.old.pending }
-        ensures refused { IfErr result (RefusesBy IsTermRule) }
+        ensures refused { IfErr result (Refuses OfTerm) }
     {
         match pending {
             Pending::Parenthesis | Pending::Question { .. } => Err(no_expression(self.hash)),
@@ -108,7 +112,7 @@ impl Evaluation {
             Pending::Binary(operator, left) => match operator.value(left, last) {
                 Some(value) => Ok(value),
                 None if self.is_live => Err(no_expression(self.hash)),
-                None => Ok(left.converted_with(last)),
+                None => Ok(left.joint(last, left.bits)),
             },
             Pending::LogicalAnd { left, is_live } => {
                 self.is_live = is_live;
@@ -131,7 +135,7 @@ impl Evaluation {
 
     /// Completes the constructs that hold their operand at least as tightly as that, the innermost first.
     fn complete(&mut self, operand: Value, level: Level) -> Result<Value, Refused>
-        ensures { IfErr result (RefusesBy IsTermRule) }
+        ensures { IfErr result (Refuses OfTerm) }
     {
         let mut value = operand;
         while let Some(pending) = self.pop(level) {
@@ -142,14 +146,14 @@ impl Evaluation {
 
     /// The refusal of the line.
     fn refused<T>(&self) -> Result<T, Refused>
-        ensures { IfErr result (RefusesBy IsTermRule) }
+        ensures { IfErr result (Refuses OfTerm) }
     {
         Err(no_expression(self.hash))
     }
 
     /// Reads a token where an operand has to begin.
     fn begin_operand(&mut self, term: Term<'_>) -> Result<(), Refused>
-        ensures { IfErr result (RefusesBy IsTermRule) }
+        ensures { IfErr result (Refuses OfTerm) }
     {
         match term {
             Term::Operand(value) => self.operand = Some(value),
@@ -164,7 +168,7 @@ impl Evaluation {
 
     /// Reads a token behind an operand.
     fn continue_operand(&mut self, operand: Value, term: Term<'_>) -> Result<(), Refused>
-        ensures { IfErr result (RefusesBy IsTermRule) }
+        ensures { IfErr result (Refuses OfTerm) }
     {
         match term {
             Term::Operand(_) => self.refused(),
@@ -182,7 +186,7 @@ impl Evaluation {
 
     /// Reads an operator that evaluates both of its operands.
     fn binary(&mut self, operand: Value, operator: Binary) -> Result<(), Refused>
-        ensures { IfErr result (RefusesBy IsTermRule) }
+        ensures { IfErr result (Refuses OfTerm) }
     {
         let left = self.complete(operand, operator.level())?;
         self.pending.push(Pending::Binary(operator, left))?;
@@ -192,7 +196,7 @@ impl Evaluation {
 
     /// Reads `&&`: the right operand is evaluated where the left one is not 0.
     fn logical_and(&mut self, operand: Value) -> Result<(), Refused>
-        ensures { IfErr result (RefusesBy IsTermRule) }
+        ensures { IfErr result (Refuses OfTerm) }
     {
         let left = self.complete(operand, Level::LogicalAnd)?.is_true();
         let is_live = self.is_live;
@@ -204,7 +208,7 @@ impl Evaluation {
 
     /// Reads `||`: the right operand is evaluated where the left one is 0.
     fn logical_or(&mut self, operand: Value) -> Result<(), Refused>
-        ensures { IfErr result (RefusesBy IsTermRule) }
+        ensures { IfErr result (Refuses OfTerm) }
     {
         let left = self.complete(operand, Level::LogicalOr)?.is_true();
         let is_live = self.is_live;
@@ -216,7 +220,7 @@ impl Evaluation {
 
     /// Reads `?`: the second operand is evaluated where the first is not 0.
     fn question(&mut self, operand: Value) -> Result<(), Refused>
-        ensures { IfErr result (RefusesBy IsTermRule) }
+        ensures { IfErr result (Refuses OfTerm) }
     {
         let condition = self.complete(operand, Level::LogicalOr)?.is_true();
         let is_live = self.is_live;
@@ -228,7 +232,7 @@ impl Evaluation {
 
     /// Reads `:`: the third operand is evaluated where the first is 0.
     fn colon(&mut self, operand: Value) -> Result<(), Refused>
-        ensures { IfErr result (RefusesBy IsTermRule) }
+        ensures { IfErr result (Refuses OfTerm) }
     {
         let first = self.complete(operand, Level::Conditional)?;
         let Some(Pending::Question { condition, is_live }) = self.pending.pop() else {
@@ -246,7 +250,7 @@ impl Evaluation {
 
     /// Reads `)`.
     fn close(&mut self, operand: Value) -> Result<(), Refused>
-        ensures { IfErr result (RefusesBy IsTermRule) }
+        ensures { IfErr result (Refuses OfTerm) }
     {
         let value = self.complete(operand, Level::Conditional)?;
         match self.pending.pop() {
@@ -260,7 +264,7 @@ impl Evaluation {
 
     /// Reads a token.
     fn take(&mut self, term: Term<'_>) -> Result<(), Refused>
-        ensures { IfErr result (RefusesBy IsTermRule) }
+        ensures { IfErr result (Refuses OfTerm) }
     {
         match self.operand {
             None => self.begin_operand(term),
@@ -270,7 +274,7 @@ impl Evaluation {
 
     /// The value of the whole, at its end.
     fn finish(mut self) -> Result<Value, Refused>
-        ensures { IfErr result (RefusesBy IsTermRule) }
+        ensures { IfErr result (Refuses OfTerm) }
     {
         let Some(operand) = self.operand else {
             return self.refused();
@@ -286,7 +290,7 @@ impl Evaluation {
 
 /// The value of the integral constant expression that all of the tokens are, in the line of that `#`.
 pub fn evaluate(alloc: Global, tokens: &[PpToken], hash: Place) -> Result<Value, Refused>
-    ensures { IfErr result (RefusesBy IsTermRule) }
+    ensures { IfErr result (Refuses OfTerm) }
 {
     let mut evaluation = Evaluation::new(alloc, hash);
     for token in tokens {

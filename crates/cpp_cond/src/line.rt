@@ -1,7 +1,8 @@
 //! Lines of a condition.
 
 ghost use Rattle.std.specs.Prelude.{◌≤◌, length, IfSome, IfErr};
-ghost use Rattle.cpp_cond.specs.Rules.{IsTermRule, RefusesBy};
+ghost use Rattle.cpp_cond.specs.Causes.{OfTerm, OfCondition};
+ghost use Rattle.cpp_expand.specs.Causes.{Refuses};
 
 use crate::evaluation::evaluate;
 use crate::term::no_expression;
@@ -58,7 +59,7 @@ fn resolved(
     macros: &Macros,
     hash: Place,
 ) -> Result<PpTokens, Refused>
-    ensures { IfErr result (RefusesBy IsTermRule) }
+    ensures { IfErr result (Refuses OfTerm) }
 {
     let mut all = Vec::new(alloc);
     let mut rest = tokens;
@@ -83,7 +84,9 @@ fn is_true(
     tokens: &[PpToken],
     macros: &Macros,
     hash: Place,
-) -> Result<bool, Refused> {
+) -> Result<bool, Refused>
+    ensures { IfErr result (Refuses OfCondition) }
+{
     let line = resolved(alloc, tokens, macros, hash)?;
     let expanded = macros.expand(&line, 0)?;
     let tokens = expanded.as_slice();
@@ -98,7 +101,7 @@ fn is_true(
 
 /// Whether the name behind `#ifdef` or `#ifndef` is a macro. What stands behind it is ignored.
 fn is_defined(tokens: &[PpToken], macros: &Macros, hash: Place) -> Result<bool, Refused>
-    ensures { IfErr result (RefusesBy IsTermRule) }
+    ensures { IfErr result (Refuses OfTerm) }
 {
     match tokens {
         [name, ..] if name.kind == PpKind::Name => Ok(macros.is_defined(&name.text)),
@@ -115,6 +118,7 @@ fn is_defined(tokens: &[PpToken], macros: &Macros, hash: Place) -> Result<bool, 
 /// token is none or has no value; and as expansion is, by K38, K42, L10 and L15.
 pub fn condition(alloc: Global, line: &PpTokens, macros: &Macros) -> Result<bool, Refused>
     requires { 2 ≤ length line.now }
+    ensures { IfErr result (Refuses OfCondition) }
 {
     let [hash, directive, rest @ ..] = line.as_slice() else {
         unreachable!()

@@ -1,6 +1,7 @@
 //! What the operators compute (C90 6.3).
 
-ghost use Rattle.std.specs.Prelude.{◌<◌};
+ghost use Rattle.std.specs.Prelude.{◌≡◌, ◌==◌, if◌then◌else◌, Some, None};
+ghost use Rattle.cpp_cond.specs.Values.{unary_value, binary_value, joint, is_less, quotient, remainder, shifted_right};
 
 use crate::value::Value;
 
@@ -66,11 +67,13 @@ impl Unary {
     }
 
     /// What it makes of an operand (C90 6.3.3.3). It wraps.
-    pub fn value(self, operand: Value) -> Value {
+    pub fn value(self, operand: Value) -> Value
+        ensures { result ≡ unary_value self operand }
+    {
         match self {
             Unary::Plus => operand,
-            Unary::Minus => operand.with_bits(operand.bits.wrapping_neg()),
-            Unary::Complement => operand.with_bits(!operand.bits),
+            Unary::Minus => operand.alike(operand.bits.wrapping_neg()),
+            Unary::Complement => operand.alike(!operand.bits),
             Unary::Not => Value::truth(!operand.is_true()),
         }
     }
@@ -119,78 +122,84 @@ impl Binary {
     /// What it makes of two operands, after the usual conversions (C90 6.2.1.5) but for a shift, which has its left
     /// operand's type. Arithmetic wraps, a shift counts modulo 32 and a signed right shift keeps the sign. None where
     /// it divides by zero.
-    pub fn value(self, left: Value, right: Value) -> Option<Value> {
-        let (a, b) = (left.converted_with(right), right.converted_with(left));
+    pub fn value(self, left: Value, right: Value) -> Option<Value>
+        ensures { result ≡ binary_value self left right }
+    {
         Some(match self {
-            Binary::Multiply => a.with_bits(a.bits.wrapping_mul(b.bits)),
-            Binary::Divide => quotient(a, b)?,
-            Binary::Remainder => remainder(a, b)?,
-            Binary::Add => a.with_bits(a.bits.wrapping_add(b.bits)),
-            Binary::Subtract => a.with_bits(a.bits.wrapping_sub(b.bits)),
-            Binary::ShiftLeft => left.with_bits(left.bits << (right.bits % 32)),
-            Binary::ShiftRight => shifted_right(left, right.bits % 32),
-            Binary::Less => Value::truth(is_less(a, b)),
-            Binary::Greater => Value::truth(is_less(b, a)),
-            Binary::NotGreater => Value::truth(!is_less(b, a)),
-            Binary::NotLess => Value::truth(!is_less(a, b)),
-            Binary::Equal => Value::truth(a.bits == b.bits),
-            Binary::Unequal => Value::truth(a.bits != b.bits),
-            Binary::And => a.with_bits(a.bits & b.bits),
-            Binary::ExclusiveOr => a.with_bits(a.bits ^ b.bits),
-            Binary::Or => a.with_bits(a.bits | b.bits),
+            Binary::Multiply => left.joint(right, left.bits.wrapping_mul(right.bits)),
+            Binary::Divide => quotient(left, right)?,
+            Binary::Remainder => remainder(left, right)?,
+            Binary::Add => left.joint(right, left.bits.wrapping_add(right.bits)),
+            Binary::Subtract => left.joint(right, left.bits.wrapping_sub(right.bits)),
+            Binary::ShiftLeft => left.alike(left.bits << (right.bits % 32)),
+            Binary::ShiftRight => left.alike(shifted_right(left, right.bits)),
+            Binary::Less => Value::truth(is_less(left, right)),
+            Binary::Greater => Value::truth(is_less(right, left)),
+            Binary::NotGreater => Value::truth(!is_less(right, left)),
+            Binary::NotLess => Value::truth(!is_less(left, right)),
+            Binary::Equal => Value::truth(left.bits == right.bits),
+            Binary::Unequal => Value::truth(left.bits != right.bits),
+            Binary::And => left.joint(right, left.bits & right.bits),
+            Binary::ExclusiveOr => left.joint(right, left.bits ^ right.bits),
+            Binary::Or => left.joint(right, left.bits | right.bits),
         })
     }
 }
 
-/// The quotient of two values of one type, toward zero; of the least long by -1 it is that long. None by zero.
-fn quotient(a: Value, b: Value) -> Option<Value> {
-    if b.bits == 0 {
-        return None;
-    }
-    let bits = if a.is_unsigned {
-        a.bits / b.bits
-    } else {
-        a.bits
-            .cast_signed()
-            .wrapping_div(b.bits.cast_signed())
-            .cast_unsigned()
-    };
-    Some(a.with_bits(bits))
-}
-
-/// The remainder of two values of one type, with the first one's sign; of the least long by -1 it is 0. None by zero.
-fn remainder(a: Value, b: Value) -> Option<Value> {
-    if b.bits == 0 {
-        return None;
-    }
-    let bits = if a.is_unsigned {
-        a.bits % b.bits
-    } else {
-        a.bits
-            .cast_signed()
-            .wrapping_rem(b.bits.cast_signed())
-            .cast_unsigned()
-    };
-    Some(a.with_bits(bits))
-}
-
-/// The value shifted right by that count, with its sign where it has one.
-fn shifted_right(a: Value, count: u32) -> Value
-    requires { count < 32 }
+/// The quotient, toward zero; of the least long by -1 it is that long. None by zero.
+fn quotient(left: Value, right: Value) -> Option<Value>
+    ensures { result ≡ (if right.bits == 0 then None else Some (joint left right (quotient left right))) }
 {
-    let bits = if a.is_unsigned {
-        a.bits >> count
+    if right.bits == 0 {
+        return None;
+    }
+    let bits = if left.is_unsigned || right.is_unsigned {
+        left.bits / right.bits
     } else {
-        (a.bits.cast_signed() >> count).cast_unsigned()
+        left.bits
+            .cast_signed()
+            .wrapping_div(right.bits.cast_signed())
+            .cast_unsigned()
     };
-    a.with_bits(bits)
+    Some(left.joint(right, bits))
 }
 
-/// Whether the first of two values of one type is less.
-fn is_less(a: Value, b: Value) -> bool {
-    if a.is_unsigned {
-        a.bits < b.bits
+/// The remainder, with the first one's sign; of the least long by -1 it is 0. None by zero.
+fn remainder(left: Value, right: Value) -> Option<Value>
+    ensures { result ≡ (if right.bits == 0 then None else Some (joint left right (remainder left right))) }
+{
+    if right.bits == 0 {
+        return None;
+    }
+    let bits = if left.is_unsigned || right.is_unsigned {
+        left.bits % right.bits
     } else {
-        a.bits.cast_signed() < b.bits.cast_signed()
+        left.bits
+            .cast_signed()
+            .wrapping_rem(right.bits.cast_signed())
+            .cast_unsigned()
+    };
+    Some(left.joint(right, bits))
+}
+
+/// The bits shifted right by that count modulo 32, with the sign of a long.
+fn shifted_right(value: Value, count: u32) -> u32
+    ensures { result ≡ shifted_right value count }
+{
+    if value.is_unsigned {
+        value.bits >> (count % 32)
+    } else {
+        (value.bits.cast_signed() >> (count % 32)).cast_unsigned()
+    }
+}
+
+/// Whether the first is less.
+fn is_less(left: Value, right: Value) -> bool
+    ensures { result ≡ is_less left right }
+{
+    if left.is_unsigned || right.is_unsigned {
+        left.bits < right.bits
+    } else {
+        left.bits.cast_signed() < right.bits.cast_signed()
     }
 }

@@ -1,7 +1,8 @@
 //! The tokens of a controlling expression.
 
 ghost use Rattle.std.specs.Prelude.{◌≡◌, IfErr};
-ghost use Rattle.cpp_cond.specs.Rules.{IsTermRule, RefusesBy};
+ghost use Rattle.cpp_cond.specs.Causes.{OfTerm};
+ghost use Rattle.cpp_expand.specs.Causes.{Refuses};
 
 use crate::constant::{NoValue, character, number};
 use crate::value::Value;
@@ -18,7 +19,7 @@ pub enum Term<'a> {
 
 /// The refusal of a line that is no integral constant expression, by its `#`.
 pub fn no_expression(place: Place) -> Refused
-    ensures { RefusesBy IsTermRule result }
+    ensures { Refuses OfTerm result }
 {
     Refused::Broken(Broken {
         rule: Rule::K35,
@@ -28,7 +29,7 @@ pub fn no_expression(place: Place) -> Refused
 
 /// The refusal of a constant without a value, which stands at `place` in the line of that `#`.
 fn no_value(reason: NoValue, place: Place, hash: Place) -> Refused
-    ensures { RefusesBy IsTermRule result }
+    ensures { Refuses OfTerm result }
 {
     let rule = match reason {
         NoValue::Floating => return no_expression(hash),
@@ -43,7 +44,7 @@ fn no_value(reason: NoValue, place: Place, hash: Place) -> Refused
 /// What a token is in the expression of the line of that `#`. A name is 0. Refused by K35 where it can stand in no
 /// integral constant expression, or as a constant without a value, or by K44 where it is no token.
 pub fn read_term(token: &PpToken, hash: Place) -> Result<Term<'_>, Refused>
-    ensures { IfErr result (RefusesBy IsTermRule) }
+    ensures { IfErr result (Refuses OfTerm) }
 {
     let read = match token.kind {
         PpKind::Name => return Ok(Term::Operand(Value::truth(false))),

@@ -1,5 +1,7 @@
 //! Values of a controlling expression.
 
+ghost use Rattle.std.specs.Prelude.{◌≡◌};
+
 /// A value of a controlling expression. All of its integers are 32 bits wide there (C90 6.8.1): signed types act as
 /// long, unsigned ones as unsigned long.
 #[derive(Clone, Copy, Debug, PartialEq, Eq)]
@@ -11,29 +13,39 @@ pub struct Value {
 }
 
 impl Value {
+    ghost use Rattle.cpp_cond.specs.Values.{truth, is_true, joint, alike};
+
     /// What a comparison answers: the long 1 or 0.
-    pub fn truth(is_true: bool) -> Value {
+    pub fn truth(holds: bool) -> Value
+        ensures { result ≡ truth holds }
+    {
         Value {
-            bits: u32::from(is_true),
+            bits: u32::from(holds),
             is_unsigned: false,
         }
     }
 
     /// Whether it is not 0.
-    pub fn is_true(self) -> bool {
+    pub fn is_true(self) -> bool
+        ensures { result ≡ is_true self }
+    {
         self.bits != 0
     }
 
-    /// The same bits, unsigned where it or the other operand is (C90 6.2.1.5).
-    pub fn converted_with(self, other: Value) -> Value {
+    /// These bits in the common type of two values: unsigned long where either is (C90 6.2.1.5).
+    pub fn joint(self, other: Value, bits: u32) -> Value
+        ensures { result ≡ joint self other bits }
+    {
         Value {
-            bits: self.bits,
+            bits,
             is_unsigned: self.is_unsigned || other.is_unsigned,
         }
     }
 
-    /// Other bits of the same type.
-    pub fn with_bits(self, bits: u32) -> Value {
+    /// These bits in its type.
+    pub fn alike(self, bits: u32) -> Value
+        ensures { result ≡ alike self bits }
+    {
         Value {
             bits,
             is_unsigned: self.is_unsigned,
