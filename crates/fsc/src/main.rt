@@ -37,6 +37,8 @@ fn main(rt: HostRuntime) -> ExitCode {
 }
 
 #[cfg(test)]
+mod front_tests;
+#[cfg(test)]
 mod run_tests;
 #[cfg(test)]
 mod tests;
