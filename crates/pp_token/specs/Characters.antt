@@ -31,7 +31,7 @@ first b (c ∷ d ∷ ds) = if b == 63 && c == 63 then or_itself (trigraph_of d) 
 abbrev pub line_after : ℕ → ℕ → ℕ
 line_after c line = if c == 10 then line + 1 else line
 
--- phase 1 from this line on, when so many bytes are passed over
+-- phase 1 from this line on; so many bytes, which belong to the character before, are passed over first
 abbrev pub phase_1 : ℕ → ℕ → List ℕ → List Character
 phase_1 skip line [] = []
 phase_1 (suc skip) line (b ∷ bs) = phase_1 skip line bs

@@ -33,6 +33,7 @@ or_token (Some found) text = found
 unfoldable pub token_at : Spot → List ℕ → Found
 token_at spot text = if is_after_include spot then or_token (longest_header text) text else longest_token text
 
+-- whether /* stands at the front
 abbrev pub begins_comment : List ℕ → Bool
 begins_comment [] = false
 begins_comment (c ∷ []) = false
@@ -42,7 +43,7 @@ abbrev pub comment_piece : Option ℕ → Piece
 comment_piece None = OpenComment
 comment_piece (Some n) = Blank (2 + n)
 
--- what stands at the front
+-- what stands at the front: a comment, the end of a line, a blank or a token
 unfoldable pub piece_at : Spot → List ℕ → Piece
 piece_at spot text =
     if begins_comment text then comment_piece (comment_rest false (drop 2 text)) else
@@ -50,6 +51,7 @@ piece_at spot text =
     (if is_blank (slice_index text 0) then Blank 1 else
     Token (token_at spot text)))
 
+-- how many characters it has
 abbrev pub length_of : Piece → ℕ
 length_of (Blank n) = n
 length_of OpenComment = 1
@@ -69,15 +71,18 @@ spot_after LineStart kinds.Punct text = if bytes_eq text (codes "#") then AfterH
 spot_after AfterHash kinds.Name text = if bytes_eq text (codes "include") then AfterInclude else Within
 spot_after _ _ text = Within
 
+-- the same of a token that comes behind this piece of the text
 abbrev pub spot_behind : Spot → Piece → List ℕ → Spot
 spot_behind spot (Blank _) text = spot
 spot_behind spot OpenComment text = spot
 spot_behind spot LineEnd text = LineStart
 spot_behind spot (Token found) text = spot_after spot found.kind (take found.length text)
 
+-- a place on this line of the file
 abbrev pub place_of : Source → ℕ → Place
 place_of source line = record { unit = source.unit; file = source.file; line = line }
 
+-- a token of phase 3
 abbrev pub token_of : Source → ℕ → Bool → PpKind → List ℕ → PpToken
 token_of source line spaced kind text = record { kind = kind; text = text; place = place_of source line; spaced = spaced; hide = [] }
 
@@ -93,7 +98,7 @@ given source spaced line text OpenComment rest = Err (record { rule = rules.K32;
 given source spaced line text LineEnd rest = put (token_of source line spaced kinds.LineEnd []) rest
 given source spaced line text (Token found) rest = put (token_of source line spaced found.kind (take found.length text)) rest
 
--- the tokens of characters with these bytes and lines, when so many are passed over
+-- the tokens of characters with these bytes and lines, and End behind them; so many characters, which belong to the piece before, are passed over first
 abbrev pub phase_3 : Source → Spot → Bool → ℕ → List ℕ → List ℕ → Result (List PpToken) Broken
 phase_3 source spot spaced skip [] lines = Ok (token_of source source.end spaced kinds.End [] ∷ [])
 phase_3 source spot spaced (suc skip) (b ∷ bs) lines = phase_3 source spot spaced skip bs (drop 1 lines)
@@ -101,7 +106,7 @@ phase_3 source spot spaced zero (b ∷ bs) lines =
     given source spaced (slice_index lines 0) (b ∷ bs) (piece_at spot (b ∷ bs))
     (phase_3 source (spot_behind spot (piece_at spot (b ∷ bs)) (b ∷ bs)) (is_space (piece_at spot (b ∷ bs))) (length_of (piece_at spot (b ∷ bs)) - 1) bs (drop 1 lines))
 
--- the tokens of a file, or the rule that it breaks
+-- the tokens of a file, or the rule that it breaks: L14 where it is too long, else K32 where a comment isn't closed
 unfoldable pub tokens_of : ℕ → ℕ → List ℕ → Result (List PpToken) Broken
 tokens_of unit file bytes =
     if nat_lt (2 ^ 24) (length bytes) then Err (record { rule = rules.L14; place = record { unit = unit; file = file; line = 1 } }) else

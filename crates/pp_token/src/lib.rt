@@ -1,4 +1,4 @@
-//! Preprocessing tokens: phases 1 to 3 of a translation (C90 5.1.1.2 and 6.1).
+//! Preprocessing tokens: phases 1 to 3 of a translation (C90 5.1.1.2 and 6.1), and what later phases keep of them.
 #![tactic(auto)]
 
 mod characters;

@@ -368,7 +368,9 @@ fn copies_of_tokens(rt: HostRuntime) -> Result<(), Fail> {
         hide: set(alloc, &[b"A".as_slice()])?,
     };
     let copy = token.copy(alloc)?;
-    assert!(rt; copy.kind == PpKind::Name && copy.text.as_slice() == b"x".as_slice() && copy.spaced);
+    assert!(rt;
+        copy.kind == PpKind::Name && copy.text.as_slice() == b"x".as_slice() && copy.spaced
+    );
     assert!(rt; copy.place == place && has_names(&copy.hide, &[b"A".as_slice()]));
     let other = Place {
         unit: 1,

@@ -24,7 +24,7 @@ pub enum PpKind {
     Punct,
     /// Any other character, an unclosed quote among them.
     Other,
-    /// The end of a line. Its text is empty.
+    /// The end of a line, also of a last one without a line feed. Its text is empty.
     LineEnd,
     /// The end of the file or of the unit. Its text is empty.
     End,
@@ -38,7 +38,7 @@ pub struct PpToken {
     pub text: Bytes,
     /// Where its first character stands, or the macro name that it comes from.
     pub place: Place,
-    /// Whether white space stands just before it.
+    /// Whether white space stands just before it: a blank, a comment or the end of a line.
     pub spaced: bool,
     /// The macros that it is not expanded for any more.
     pub hide: HideSet,
