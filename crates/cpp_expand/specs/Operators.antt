@@ -7,7 +7,7 @@ use Rattle.pp_token.specs.declared.token.PpToken.{PpToken}
 use Rattle.pp_token.specs.declared.token.PpKind.{PpKind}
 use Rattle.pp_token.specs.declared.token.PpKind.TheVariants.{Header, Name, Number, Char, Str, Punct, Other, LineEnd, End}
 use Rattle.pp_token.specs.HideSets.{common}
-use Rattle.pp_token.specs.Scanning.{kind_of}
+use Rattle.pp_token.specs.Spelling.{kind_of}
 use Rattle.cpp_expand.specs.Table.{Table}
 
 -- ---- # (C90 6.8.3.2)

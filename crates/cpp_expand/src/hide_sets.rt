@@ -25,6 +25,8 @@ struct HideNode {
 #[derive(Drop)]
 pub struct HideSets {
     nodes: IndexSet<HideNode>,
+    /// How many names were looked at so far.
+    looked: u64,
 }
 
 impl HideSets {
@@ -32,7 +34,13 @@ impl HideSets {
     pub fn new(alloc: Global) -> HideSets {
         HideSets {
             nodes: IndexSet::new(alloc),
+            looked: 0,
         }
+    }
+
+    /// How many names were looked at so far.
+    pub fn looked(&self) -> u64 {
+        self.looked
     }
 
     /// The node of a set. None for the empty one.
@@ -41,24 +49,25 @@ impl HideSets {
         self.nodes.get_index(index).copied()
     }
 
-    /// Whether a set has the name, and how many names were looked at.
-    pub fn find(&self, set: HideId, name: usize) -> (bool, usize) {
+    /// Whether a set has the name.
+    pub fn has(&mut self, set: HideId, name: usize) -> bool {
         let mut rest = set;
-        for looked in 0..self.nodes.len() {
+        for _ in 0..self.nodes.len() {
             let Some(node) = self.node(rest) else {
-                return (false, looked);
+                return false;
             };
             if node.name == name {
-                return (true, looked);
+                return true;
             }
+            self.looked = self.looked.saturating_add(1);
             rest = node.rest;
         }
-        (false, self.nodes.len())
+        false
     }
 
     /// The set, and the name.
     pub fn with(&mut self, set: HideId, name: usize) -> Result<HideId, NoMemory> {
-        if self.find(set, name).0 {
+        if self.has(set, name) {
             return Ok(set);
         }
         let (index, _) = self.nodes.insert_full(HideNode { name, rest: set })?;
@@ -67,7 +76,7 @@ impl HideSets {
 
     /// The names of either set.
     pub fn with_all(&mut self, set: HideId, more: HideId) -> Result<HideId, NoMemory> {
-        if set == HideId::NONE {
+        if set == HideId::NONE || set == more {
             return Ok(more);
         }
         let mut all = set;
@@ -93,7 +102,7 @@ impl HideSets {
             let Some(node) = self.node(rest) else {
                 break;
             };
-            if self.find(b, node.name).0 {
+            if self.has(b, node.name) {
                 both = self.with(both, node.name)?;
             }
             rest = node.rest;

@@ -134,8 +134,12 @@ impl<'a> Machine<'a> {
                 }
             }
         }
+        let mut last = (HideId::NONE, hide);
         while let Some(token) = tokens.pop() {
-            let hide = self.store.hide_with_all(token.hide, hide)?;
+            if token.hide != last.0 {
+                last = (token.hide, self.store.hide_with_all(token.hide, hide)?);
+            }
+            let hide = last.1;
             self.store
                 .put(&mut self.list.pending, Item { hide, ..token })?;
         }
@@ -322,18 +326,17 @@ impl<'a> Machine<'a> {
     }
 
     /// The macro that a token is to be expanded by. None for no identifier, no macro, or one in its hide set.
-    fn meaning(&mut self, token: Item<'a>) -> Result<Option<(usize, &'a Macro)>, NoMemory> {
+    fn meaning(&mut self, token: Item<'a>) -> Option<(usize, &'a Macro)> {
         if token.kind != PpKind::Name {
-            return Ok(None);
+            return None;
         }
         let macros = self.macros;
-        let Some((index, found)) = macros.find(self.store.bytes(token.text)) else {
-            return Ok(None);
-        };
-        if self.store.is_hidden(token.hide, index)? {
-            return Ok(None);
+        let (index, found) = macros.find(self.store.bytes(token.text))?;
+        if self.store.is_hidden(token.hide, index) {
+            None
+        } else {
+            Some((index, found))
         }
-        Ok(Some((index, found)))
     }
 
     /// Takes the next token of the list and turns it into what it stands for.
@@ -343,7 +346,7 @@ impl<'a> Machine<'a> {
         let Some(token) = self.list.pending.pop() else {
             return self.end();
         };
-        match self.meaning(token)? {
+        match self.meaning(token) {
             Some((index, found)) => self.turn_macro(token, index, found)?,
             None => self.give(token)?,
         }

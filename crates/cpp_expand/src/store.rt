@@ -65,6 +65,9 @@ impl Store {
     /// Counts work. Refused where none is left.
     pub fn spend(&mut self, work: usize) -> Result<(), NoMemory> {
         self.work_left = self.work_left.checked_sub(work as u64).ok_or(NoMemory)?;
+        if self.sets.looked() > MOST_WORK {
+            return Err(NoMemory);
+        }
         Ok(())
     }
 
@@ -79,10 +82,8 @@ impl Store {
     }
 
     /// Whether a hide set has the macro of this index.
-    pub fn is_hidden(&mut self, hide: HideId, name: usize) -> Result<bool, NoMemory> {
-        let (found, looked) = self.sets.find(hide, name);
-        self.spend(looked)?;
-        Ok(found)
+    pub fn is_hidden(&mut self, hide: HideId, name: usize) -> bool {
+        self.sets.has(hide, name)
     }
 
     /// The hide set, and the macro of this index.
