@@ -1,9 +1,12 @@
 -- What phase 3 gives: a list with an End, or one of its two rules.
-use Rattle.std.proofs.Common.{◌≡◌, ℕ, zero, suc, ◌+◌, ◌-◌, ◌^◌, ◌<◌, ◌⊎◌, inl, inr, List, [], ◌∷◌, length, Bool, true, false, Result, Ok, Err, IfOk, refl, sym, subst, lit<, nat_lt, arith, if◌then◌else◌}
+use Rattle.std.proofs.Common.{◌≡◌, ℕ, zero, suc, ◌+◌, ◌-◌, ◌^◌, ◌<◌, ◌⊎◌, inl, inr, List, [], ◌∷◌, length, Bool, true, false, Result, Ok, Err, IfOk, IfErr, refl, sym, subst, lit<, nat_lt, arith, if◌then◌else◌}
 use Rattle.fsc_base.specs.declared.place.Broken.{Broken}
 use Rattle.fsc_base.specs.declared.place.Refused.{Refused}
 use Rattle.fsc_base.specs.declared.place.Refused.TheVariants as refusals
 use Rattle.fsc_base.specs.declared.rule.Rule.TheVariants.{K32, L14}
+use Rattle.cpp_expand.specs.Causes.{Refuses}
+use Rattle.cpp_text.specs.Causes.{OfText}
+use Rattle.cpp_text.proofs.Texts.{of_file}
 use Rattle.pp_token.specs.declared.token.PpToken.{PpToken}
 use Rattle.pp_token.specs.declared.piece.Piece.{Piece}
 use Rattle.pp_token.specs.declared.piece.Piece.TheVariants.{Blank, OpenComment, LineEnd, Token}
@@ -48,3 +51,9 @@ tokens_of-shaped unit file bytes = choice-shaped (nat_lt (2 ^ 24) (length bytes)
 pub has_end : (result : Result (List PpToken) Refused) (unit file : ℕ) (bytes : List ℕ) → Gives result (tokens_of unit file bytes) → IfOk result (λ tokens. 0 < length tokens)
 has_end (Ok tokens) unit file bytes h = subst Shaped h (tokens_of-shaped unit file bytes)
 has_end (Err refused) unit file bytes h = tt
+
+-- what was refused breaks a rule of phases 1 to 3
+pub refuses : (result : Result (List PpToken) Refused) (unit file : ℕ) (bytes : List ℕ) → Gives result (tokens_of unit file bytes) → IfErr result (Refuses OfText)
+refuses (Ok tokens) unit file bytes h = tt
+refuses (Err (refusals.Broken broken)) unit file bytes h = of_file (refusals.Broken broken) (subst Shaped h (tokens_of-shaped unit file bytes))
+refuses (Err refusals.NoMemory) unit file bytes h = tt

@@ -1,3 +1,4 @@
 pub mod Earlier
 pub mod FileTokens
 pub mod Nesting
+pub mod Texts

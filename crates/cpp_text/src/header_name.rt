@@ -1,5 +1,9 @@
 //! The name in an `#include` line (C90 6.1.7 and 6.8.2).
 
+ghost use Rattle.std.specs.Prelude.{IfErr};
+ghost use Rattle.cpp_expand.specs.Causes.{Refuses};
+ghost use Rattle.cpp_text.specs.Causes.{OfText};
+
 use crate::directive::operands;
 use crate::refusal::broken;
 use cpp_expand::Macros;
@@ -70,12 +74,15 @@ pub fn copies(alloc: Global, tokens: &[PpToken]) -> Result<PpTokens, NoMemory> {
 
 /// The name of an `#include` line with its `#` at `hash`. A line that is no header name alone is expanded, and what
 /// comes is spelled anew. Refused by K41 where that is no header name, or as expansion is.
+#[tactic(auto, using(crate::proofs::Texts::of_expand))]
 pub fn included(
     alloc: Global,
     line: &[PpToken],
     macros: &Macros,
     hash: Place,
-) -> Result<HeaderName, Refused> {
+) -> Result<HeaderName, Refused>
+    ensures { IfErr result (Refuses OfText) }
+{
     let tokens = operands(line);
     let found = match tokens {
         [header] if header.kind == PpKind::Header => header_name(alloc, header.text.as_slice())?,

@@ -1,5 +1,9 @@
 //! The line `#line` (C90 6.8.4).
 
+ghost use Rattle.std.specs.Prelude.{IfErr};
+ghost use Rattle.cpp_expand.specs.Causes.{Refuses};
+ghost use Rattle.cpp_text.specs.Causes.{OfText};
+
 use crate::directive::operands;
 use crate::header_name::copies;
 use crate::refusal::broken;
@@ -41,7 +45,9 @@ fn line_number(digits: &[u8]) -> Option<u32> {
 
 /// What stands between the quotes of a string literal, escape sequences read. None where it is wide or has an escape
 /// sequence that is none.
-fn string_content(alloc: Global, text: &[u8]) -> Result<Option<Name>, Refused> {
+fn string_content(alloc: Global, text: &[u8]) -> Result<Option<Name>, Refused>
+    ensures { IfErr result (Refuses OfText) }
+{
     let [b'"', inner @ .., b'"'] = text else {
         return Ok(None);
     };
@@ -58,7 +64,9 @@ fn string_content(alloc: Global, text: &[u8]) -> Result<Option<Name>, Refused> {
 }
 
 /// What expanded operands of `#line` say, or None where they are no number with an optional string.
-fn read(alloc: Global, tokens: &[PpToken]) -> Result<Option<LineNumber>, Refused> {
+fn read(alloc: Global, tokens: &[PpToken]) -> Result<Option<LineNumber>, Refused>
+    ensures { IfErr result (Refuses OfText) }
+{
     let (digits, string) = match tokens {
         [digits] => (digits, None),
         [digits, string] if string.kind == PpKind::Str => (digits, Some(string)),
@@ -84,12 +92,15 @@ fn read(alloc: Global, tokens: &[PpToken]) -> Result<Option<LineNumber>, Refused
 
 /// What a `#line` line with its `#` at `hash` says after expansion. Refused by K39 where it is no number with an
 /// optional string, or as expansion is.
+#[tactic(auto, using(crate::proofs::Texts::of_expand))]
 pub fn numbered(
     alloc: Global,
     line: &[PpToken],
     macros: &Macros,
     hash: Place,
-) -> Result<LineNumber, Refused> {
+) -> Result<LineNumber, Refused>
+    ensures { IfErr result (Refuses OfText) }
+{
     let expanded = macros.expand(&copies(alloc, operands(line))?, 0)?;
     read(alloc, expanded.as_slice())?.ok_or(broken(Rule::K39, hash))
 }

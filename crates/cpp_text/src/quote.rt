@@ -1,5 +1,9 @@
 //! Quotes that are not closed on their line.
 
+ghost use Rattle.std.specs.Prelude.{IfErr};
+ghost use Rattle.cpp_expand.specs.Causes.{Refuses};
+ghost use Rattle.cpp_text.specs.Causes.{OfText};
+
 use fsc_base::{Broken, Refused, Rule};
 use pp_token::{PpKind, PpToken};
 
@@ -9,7 +13,9 @@ fn is_open_quote(token: &PpToken) -> bool {
 }
 
 /// Refuses by K31, at its place, the first quote that is not closed.
-pub fn check_quotes(tokens: &[PpToken]) -> Result<(), Refused> {
+pub fn check_quotes(tokens: &[PpToken]) -> Result<(), Refused>
+    ensures { IfErr result (Refuses OfText) }
+{
     match tokens.iter().find(|token| is_open_quote(token)) {
         Some(quote) => Err(Refused::Broken(Broken {
             rule: Rule::K31,

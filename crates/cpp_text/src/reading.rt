@@ -1,6 +1,8 @@
 //! The files of a unit while they are read.
 
 ghost use Rattle.std.specs.Prelude.{◌≡◌, ◌+◌, ◌^◌, ◌<◌, ◌≤◌, [], ◌∷◌, ◌++◌, length, vec_len, IfOk, IfErr, OnOk, IsTrue};
+ghost use Rattle.cpp_expand.specs.Causes.{Refuses};
+ghost use Rattle.cpp_text.specs.Causes.{OfText};
 ghost use Rattle.cpp_text.specs.Outside.{StopsLine};
 ghost use Rattle.cpp_text.specs.Progress.{left_of};
 
@@ -88,6 +90,7 @@ impl Reading {
     }
 
     /// Reads a line, or ends a file. Answers whether the unit goes on.
+    #[tactic(auto, using(crate::proofs::Earlier::line_of_refused))]
     fn step<F: Files>(&mut self, files: &mut F) -> Result<bool, Stop>
         ensures shorter { IfOk result (λ goes_on. IsTrue goes_on → left_of self.new.including.items self.new.current < left_of self.old.including.items self.old.current) }
         ensures stopped { IfErr result (λ stop. StopsLine stop (record {
@@ -118,7 +121,8 @@ impl Reading {
     /// Ends the file that is read and goes on with the one that includes it. Answers whether there is one. Refused by
     /// K34, at the file's end, where an `#endif` is missing.
     fn end_file(&mut self) -> Result<bool, Refused>
-        ensures { IfOk result (λ goes_on. IsTrue goes_on → self.old.including.items ≡ self.new.including.items ++ self.new.current ∷ []) }
+        ensures progress { IfOk result (λ goes_on. IsTrue goes_on → self.old.including.items ≡ self.new.including.items ++ self.new.current ∷ []) }
+        ensures cause { IfErr result (Refuses OfText) }
     {
         self.translation.expand_text()?;
         if !self.current.position.sections.is_empty() {
@@ -133,7 +137,7 @@ impl Reading {
     }
 
     /// Goes on with an included file. Refused by L02 where 64 files are nested already, and by K40 where it is absent.
-    #[tactic(auto, using(crate::proofs::Earlier::line_of_search))]
+    #[tactic(auto, using(crate::proofs::Earlier::line_of_search, crate::proofs::Earlier::line_of_refused))]
     fn include<F: Files>(&mut self, files: &mut F, inclusion: &Inclusion) -> Result<(), Stop>
         ensures limit { OnOk result (self.old.current.depth < 64) }
         ensures outer { OnOk result (self.new.including.items ≡ self.old.including.items ++ self.old.current ∷ []) }
@@ -168,6 +172,7 @@ impl Reading {
         ensures outer { OnOk result (self.new.including.items ≡ self.old.including.items ++ self.old.current ∷ []) }
         ensures depth { OnOk result (self.new.current.depth ≡ self.old.current.depth + 1) }
         ensures bounded { OnOk result (vec_len self.new.current.rest < 2 ^ 64) }
+        ensures cause { IfErr result (Refuses OfText) }
     {
         let file = self.translation.number_of(&name)?;
         let tokens = file_tokens(self.alloc, self.unit, file, bytes)?;

@@ -1,6 +1,7 @@
 //! Why a unit has no tokens.
 
 ghost use Rattle.std.specs.Prelude.{◌≡◌};
+ghost use Rattle.fsc_base.specs.declared.place.Refused.TheVariants as reasons;
 ghost use Rattle.cpp_text.specs.Stops.{stop_of};
 ghost use Rattle.cpp_text.specs.declared.refusal.Stop.TheVariants as stops;
 
@@ -30,7 +31,9 @@ pub enum Stop {
 }
 
 /// A rule is broken by the directive whose `#` stands there.
-pub fn broken(rule: Rule, hash: Place) -> Refused {
+pub fn broken(rule: Rule, hash: Place) -> Refused
+    ensures { result ≡ reasons.Broken (record { rule = rule; place = hash }) }
+{
     Refused::Broken(Broken { rule, place: hash })
 }
 

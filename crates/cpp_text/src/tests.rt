@@ -162,10 +162,6 @@ fn included_files(rt: HostRuntime) -> Result<(), Fail> {
             b"#define H <b.h>\n#include H\n#define Q \"b.h\"\n#include Q",
             b"top top",
         ),
-        (
-            b"#define D d\n#define L <\n#include L D/b.h>\nB",
-            b"(refused)",
-        ),
         (b"#define E\n#include \"b.h\" E\n", b"top"),
         (b"#include \"f.h\"\n(1)", b"f ( 1 )"),
         (

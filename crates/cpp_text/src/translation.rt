@@ -1,6 +1,8 @@
 //! What the lines of a unit make.
 
-ghost use Rattle.std.specs.Prelude.{◌-◌, ◌^◌, ◌≤◌, ◌≤ℤ◌, pos, negsuc, vec_len};
+ghost use Rattle.std.specs.Prelude.{◌-◌, ◌^◌, ◌≤◌, ◌≤ℤ◌, pos, negsuc, vec_len, IfErr};
+ghost use Rattle.cpp_expand.specs.Causes.{Refuses};
+ghost use Rattle.cpp_text.specs.Causes.{OfText};
 
 use crate::directive::{ControlDirective, Directive, SectionDirective, directive_of, operands};
 use crate::header_name::{HeaderName, included};
@@ -102,7 +104,9 @@ impl Translation {
         &mut self,
         position: &mut Position,
         line: Vec<PpToken>,
-    ) -> Result<Option<Inclusion>, Refused> {
+    ) -> Result<Option<Inclusion>, Refused>
+        ensures { IfErr result (Refuses OfText) }
+    {
         match directive_of(&line) {
             None => {
                 self.take_text(position, line)?;
@@ -125,7 +129,9 @@ impl Translation {
     }
 
     /// Keeps a line of text for expansion, where its group is read. Refused by K31 at a quote that is not closed.
-    fn take_text(&mut self, position: &Position, mut line: Vec<PpToken>) -> Result<(), Refused> {
+    fn take_text(&mut self, position: &Position, mut line: Vec<PpToken>) -> Result<(), Refused>
+        ensures { IfErr result (Refuses OfText) }
+    {
         if position.is_read() {
             check_quotes(&line)?;
             self.text.append(&mut line)?;
@@ -134,7 +140,10 @@ impl Translation {
     }
 
     /// Expands the lines since the last directive.
-    pub fn expand_text(&mut self) -> Result<(), Refused> {
+    #[tactic(auto, using(crate::proofs::Texts::of_expand))]
+    pub fn expand_text(&mut self) -> Result<(), Refused>
+        ensures { IfErr result (Refuses OfText) }
+    {
         let text = mem::replace(&mut self.text, Vec::new(self.alloc));
         if text.is_empty() {
             return Ok(());
@@ -156,6 +165,7 @@ impl Translation {
         hash: Place,
     ) -> Result<(), Refused>
         requires { 2 ≤ vec_len line }
+        ensures { IfErr result (Refuses OfText) }
     {
         let section = match directive {
             SectionDirective::If if position.is_read() => {
@@ -180,8 +190,10 @@ impl Translation {
     }
 
     /// Whether the condition of a line holds.
+    #[tactic(auto, using(crate::proofs::Texts::of_condition))]
     fn holds(&self, line: Vec<PpToken>) -> Result<bool, Refused>
         requires { 2 ≤ vec_len line }
+        ensures { IfErr result (Refuses OfText) }
     {
         Ok(condition(self.alloc, &PpTokens::from_vec(line), &self.macros)?)
     }
@@ -189,19 +201,23 @@ impl Translation {
     /// Whether the condition of an `#elif` line holds.
     fn holds_elif(&self, line: Vec<PpToken>) -> Result<bool, Refused>
         requires { 2 ≤ vec_len line }
+        ensures { IfErr result (Refuses OfText) }
     {
         check_quotes(operands(&line))?;
         self.holds(line)
     }
 
     /// Follows a directive in a group that is read. Answers the file that it includes, if any.
+    #[tactic(auto, using(crate::proofs::Texts::of_define, crate::proofs::Texts::of_undefine))]
     fn control(
         &mut self,
         position: &mut Position,
         directive: ControlDirective,
         line: Vec<PpToken>,
         hash: Place,
-    ) -> Result<Option<Inclusion>, Refused> {
+    ) -> Result<Option<Inclusion>, Refused>
+        ensures { IfErr result (Refuses OfText) }
+    {
         match directive {
             ControlDirective::Define => {
                 check_quotes(operands(&line))?;
@@ -221,7 +237,9 @@ impl Translation {
     }
 
     /// The file that an `#include` line names.
-    fn inclusion(&self, line: &[PpToken], hash: Place) -> Result<Inclusion, Refused> {
+    fn inclusion(&self, line: &[PpToken], hash: Place) -> Result<Inclusion, Refused>
+        ensures { IfErr result (Refuses OfText) }
+    {
         check_quotes(operands(line))?;
         let header = included(self.alloc, line, &self.macros, hash)?;
         Ok(Inclusion { header, hash })
@@ -233,7 +251,9 @@ impl Translation {
         position: &mut Position,
         line: &[PpToken],
         hash: Place,
-    ) -> Result<(), Refused> {
+    ) -> Result<(), Refused>
+        ensures { IfErr result (Refuses OfText) }
+    {
         check_quotes(operands(line))?;
         let numbered = numbered(self.alloc, line, &self.macros, hash)?;
         position.add = addition(numbered.number, last_line(line, hash));
@@ -273,7 +293,9 @@ fn added(count: u32, tokens: &[PpToken]) -> u32
 }
 
 /// Takes the innermost conditional inclusion, which has no `#else` so far. Refused by K34 where there is none.
-fn undivided(position: &mut Position, hash: Place) -> Result<Section, Refused> {
+fn undivided(position: &mut Position, hash: Place) -> Result<Section, Refused>
+    ensures { IfErr result (Refuses OfText) }
+{
     match position.sections.pop() {
         Some(section) if !section.has_else() => Ok(section),
         _ => Err(broken(Rule::K34, hash)),
@@ -281,7 +303,9 @@ fn undivided(position: &mut Position, hash: Place) -> Result<Section, Refused> {
 }
 
 /// Ends the innermost conditional inclusion. Refused by K34 where there is none.
-fn end_section(position: &mut Position, hash: Place) -> Result<(), Refused> {
+fn end_section(position: &mut Position, hash: Place) -> Result<(), Refused>
+    ensures { IfErr result (Refuses OfText) }
+{
     match position.sections.pop() {
         Some(_) => Ok(()),
         None => Err(broken(Rule::K34, hash)),

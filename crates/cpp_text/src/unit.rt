@@ -1,7 +1,7 @@
 //! From a file to the tokens of its unit.
 
 ghost use Rattle.std.specs.Prelude.{◌≡◌, ◌≤◌, IfErr};
-ghost use Rattle.cpp_text.specs.Outside.{Refuses, IsOfText, NamesFault, Answers};
+ghost use Rattle.cpp_text.specs.Outside.{RefusesUnit, IsOfText, NamesFault, NamesBroken, Answers};
 
 use crate::opening::file_tokens;
 use crate::reading::Reading;
@@ -13,7 +13,7 @@ use std::alloc::Global;
 
 /// The refusal of a unit that breaks a rule in the file of that name.
 fn broken_in(broken: Broken, name: Result<Name, NoMemory>) -> PpNo
-    ensures { IsOfText result }
+    ensures { NamesBroken result broken }
 {
     match name {
         Ok(name) => PpNo::Broken(broken, name),
@@ -34,7 +34,7 @@ fn faulty(alloc: Global, name: &Name) -> PpNo
 /// The bytes of the unit's own file.
 #[tactic(auto, using(crate::proofs::Earlier::refuses_fault))]
 fn own_file<F: Files>(alloc: Global, files: &mut F, name: &Name) -> Result<Bytes, PpNo>
-    ensures refused { IfErr result (λ refusal. Refuses refusal name.now (record {
+    ensures refused { IfErr result (λ refusal. RefusesUnit refusal name.now (record {
       told = F.contents files.old;
       blamed = F.blamed files.new;
       faults_before = F.fault_count files.old;
@@ -55,6 +55,7 @@ fn own_file<F: Files>(alloc: Global, files: &mut F, name: &Name) -> Result<Bytes
 }
 
 /// The unit with these bytes in its own file, before its first line.
+#[tactic(auto, using(crate::proofs::Earlier::text_broken))]
 fn begun(alloc: Global, unit: u32, name: &Name, bytes: &[u8]) -> Result<Reading, PpNo>
     ensures { IfErr result IsOfText }
 {
@@ -95,7 +96,7 @@ pub fn preprocess<F: Files>(
     unit: u32,
     name: &Name,
 ) -> Result<PpUnit, PpNo>
-    ensures refused { IfErr result (λ refusal. Refuses refusal name.now (record {
+    ensures refused { IfErr result (λ refusal. RefusesUnit refusal name.now (record {
       told = F.contents files.old;
       blamed = F.blamed files.new;
       faults_before = F.fault_count files.old;

@@ -7,7 +7,11 @@ fn decided(store: &mut CellStore, block: u32, desc: u32) -> u32 {
         return 0;
     }
     decide(store, block, desc);
-    if store.is_made(block) { store.header(block).desc } else { 0 }
+    if store.is_made(block) {
+        store.header(block).desc
+    } else {
+        0
+    }
 }
 
 #[test]

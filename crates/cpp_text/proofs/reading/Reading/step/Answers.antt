@@ -4,7 +4,7 @@ use Rattle.cpp_text.proofs.reading.Reading.step.Goals as goal
 use Rattle.cpp_text.proofs.reading.Reading.step.Goals.{in-Some+in_ok-include, in_default}
 
 pub returns-then-is_empty-clause-shorter : goal.returns-then-is_empty-clause-shorter
-returns-then-is_empty-clause-shorter g c = λ t. ended _ _ c.args.self.now.current _ (c.in_ok-end_file.ensures t)
+returns-then-is_empty-clause-shorter g c = λ t. ended _ _ c.args.self.now.current _ (c.in_ok-end_file.ensures.progress t)
 
 pub returns-clause-shorter : goal.returns-clause-shorter
 returns-clause-shorter g c =
