@@ -1,4 +1,5 @@
 mod Asking
+mod Fronting
 mod Going
 mod Names
 mod Noting

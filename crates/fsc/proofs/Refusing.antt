@@ -18,7 +18,7 @@ use Rattle.fsc.specs.declared.ending.Ending.TheVariants.{Exited, Stopped, OutOfS
 use Rattle.fsc.specs.declared.ending.Form.TheVariants.{Command, Text}
 use Rattle.fsc.specs.Words.{Asks, IsUnbuilt, NamesToRead, MayRead}
 use Rattle.fsc.specs.Performing.{FileCounts, RefusesUnit, RefusesText, RefusesRead, RefusesFile, RefusesWords, Performed, refused, ran, ran_image}
-use Rattle.fsc.specs.Tool.{Job, IsAsked, Answers, IsEnd, IsUnless, IsUnlessFault, IsRefusedText}
+use Rattle.fsc.specs.Tool.{Job, IsAsked, Answers, IsEnd, IsUnless, IsUnlessFault, IsRefusedText, IsRejection}
 use Rattle.fsc.proofs.Asking.{one_request, not_both, built, usable, one_text, not_missing}
 use Rattle.fsc.proofs.Performing.{said_is, not_of_image}
 
@@ -295,13 +295,16 @@ file_fault ending made said marks words counts before after performed report nam
 
 -- ---- a rule that is broken
 
-rejected_in : (rule : Rule) (place : Place) (name : List ℕ) (words : List (List ℕ)) (file : List ℕ) (steps : ℕ) (counts : FileCounts) → Asks words file steps → RefusesFile (Rejected rule place name) file counts → NoProgram words counts.told
+abbrev Breaks : Rule → Place → (words : List (List ℕ)) → FileCounts → Type 0
+Breaks rule place words counts = IsRejection rule place counts.absences_before counts.absences_after × NoProgram words counts.told
+
+rejected_in : (rule : Rule) (place : Place) (name : List ℕ) (words : List (List ℕ)) (file : List ℕ) (steps : ℕ) (counts : FileCounts) → Asks words file steps → RefusesFile (Rejected rule place name) file counts → Breaks rule place words counts
 rejected_in rule place name words file steps counts asks (inl read) = absurd read
-rejected_in rule place name words file steps counts asks (inr (text, held, inl (no_program, why))) = (file, steps, text, asks, held, no_program)
+rejected_in rule place name words file steps counts asks (inr (text, held, inl (no_program, why))) = (why, (file, steps, text, asks, held, no_program))
 rejected_in rule place name words file steps counts asks (inr (text, held, inr same)) = absurd cc
 
 rejected_said : (rule : Rule) (place : Place) (name : List ℕ) (made : Option Image) (marks : Option ℕ) (words : List (List ℕ)) (counts : FileCounts) (before after : Streams)
-    → Performed made (Rejected rule place name) marks words counts before after → NoProgram words counts.told
+    → Performed made (Rejected rule place name) marks words counts before after → Breaks rule place words counts
 rejected_said rule place name made marks words counts before after (refused none unmarked why kept) = absurd why
 rejected_said rule place name None marks words counts before after (ran file steps stats asks runs kept) = rejected_in rule place name words file steps counts (stats, asks) runs.0
 rejected_said rule place name (Some image) marks words counts before after (ran file steps stats asks runs kept) = absurd runs.2.1
@@ -310,7 +313,7 @@ rejected_said rule place name made marks words counts before after (ran_image fi
     absurd (not_of_image (image_at bytes) steps stats (Rejected rule place name) marks before after runs (λ h. h) (λ fault offset e. cc))
 
 pub rejected : (ending : Ending) (made : Option Image) (said : Ending) (marks : Option ℕ) (words : List (List ℕ)) (counts : FileCounts) (before after : Streams) → Performed made said marks words counts before after → IsUnless said ending
-    → (rule : Rule) (place : Place) (name : List ℕ) → ending ≡ Rejected rule place name → NoProgram words counts.told
+    → (rule : Rule) (place : Place) (name : List ℕ) → ending ≡ Rejected rule place name → Breaks rule place words counts
 rejected ending made said marks words counts before after performed report rule place name is =
     let same = refusal_is ending said (Rejected rule place name) report is (λ e. cc) (λ e. cc) in
     rejected_said rule place name made marks words counts before after (subst (λ (e : Ending). Performed made e marks words counts before after) same performed)

@@ -13,7 +13,7 @@ use Rattle.fsc.specs.declared.ending.Ending.{Ending}
 use Rattle.fsc.specs.declared.ending.Ending.TheVariants.{Exited, Stopped, OutOfStorage, StepsUsed, Usage, MissingFile, FileFault, ReadFault, WriteFault, NoteFault, Rejected, BadImage, Trap, NotBuilt, NoMemory}
 use Rattle.fsc.specs.declared.ending.Form.TheVariants.{Command, Text}
 use Rattle.fsc.specs.Words.{AsksWith, AsksRun, IsUnbuilt}
-use Rattle.fsc.specs.Tool.{IsImageOf, Answers, MarksOf, RunsImage}
+use Rattle.fsc.specs.Tool.{IsImageOf, Answers, MarksOf, IsRejection, RunsImage}
 
 -- what the files tell and count, before a call and after it
 pub record FileCounts : Type 0 where
@@ -40,7 +40,7 @@ RefusesUnit (FileFault name) file counts = Rose counts.faults_before counts.faul
 RefusesUnit ReadFault file counts = ⊥
 RefusesUnit WriteFault file counts = ⊥
 RefusesUnit NoteFault file counts = ⊥
-RefusesUnit (Rejected rule place name) file counts = Unit {0}
+RefusesUnit (Rejected rule place name) file counts = IsRejection rule place counts.absences_before counts.absences_after
 RefusesUnit (BadImage fault offset) file counts = ⊥
 RefusesUnit (Trap kind pc) file counts = ⊥
 RefusesUnit (NotBuilt Text) file counts = Unit {0}

@@ -5,8 +5,13 @@ use Rattle.std.specs.Prelude.{◌≡◌, ℕ, ◌≤◌, ◌⊎◌, List, ◌++�
 use Rattle.fsc_base.specs.declared.image.Image.{Image}
 use Rattle.fsc_base.specs.declared.place.Place.{Place}
 use Rattle.fsc_base.specs.declared.rule.Rule.{Rule}
+use Rattle.fsc_base.specs.declared.rule.Rule.TheVariants.{K40, L02}
+use Rattle.fsc_outside.specs.Counts.{Rose}
 use Rattle.fsc_outside.specs.FileMap.{FileMap, Holds}
 use Rattle.fsc_outside.specs.Streams.{Appends, AppendsFront}
+use Rattle.pp_token.specs.declared.token.PpToken.{PpToken}
+use Rattle.c_lexer.specs.Lexing.{IsBroken}
+use Rattle.cpp_text.specs.Causes.{OfText}
 use Rattle.elf_image.specs.declared.fault.ReadElfNo.{ReadElfNo}
 use Rattle.elf_image.specs.declared.fault.ReadElfNo.TheVariants as elf
 use Rattle.elf_image.specs.Reading.{image_at}
@@ -195,6 +200,13 @@ IsUnlessFault said ending = IsUnless said ending ⊎ ((name : List ℕ) × (endi
 abbrev pub IsRefusedText : Ending → Type 0
 IsRefusedText ending =
     IsUnlessFault (NotBuilt Text) ending ⊎ ((rule : Rule) × (place : Place) × (name : List ℕ) × (ending ≡ Rejected rule place name))
+
+-- Why a text is rejected, by the count of absences before and after: a rule of preprocessing is broken, K40 only where a
+-- file was absent, or some list of preprocessing tokens breaks a rule of tokens there.
+abbrev pub IsRejection : Rule → Place → (before after : ℕ) → Type 0
+IsRejection rule place before after =
+    (OfText rule ⊎ ((rule ≡ L02) ⊎ ((rule ≡ K40) × Rose before after)))
+    ⊎ ((list : List PpToken) × IsBroken list (record { rule = rule; place = place }))
 
 -- the lines of an ending, after that of the marks if they are told
 abbrev pub notes_of : Option ℕ → Ending → List ℕ

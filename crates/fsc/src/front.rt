@@ -1,23 +1,30 @@
 //! What the front end says of a file: it is preprocessed and lexed.
 
 ghost use Rattle.std.specs.Prelude.{◌≡◌, ℕ, ◌≤◌, List};
+ghost use Rattle.pp_token.specs.declared.token.PpToken.{PpToken};
+ghost use Rattle.c_lexer.specs.Lexing.{IsBroken};
 ghost use Rattle.fsc.specs.Performing.{FileCounts, RefusesUnit};
 
 use crate::ending::{Ending, Form};
 use crate::reading::missing;
 use c_lexer::tokens;
 use cpp_text::{PpNo, preprocess};
-use fsc_base::{Broken, Name, NoMemory, Refused};
+use fsc_base::{Broken, Name, NoMemory, Place, Refused};
 use fsc_outside::Files;
 use pp_token::{Names, PpUnit};
 use std::alloc::Global;
 
+/// The name of the file where a place is, among a unit's files, of which the first is the unit's own.
+fn file_name(alloc: Global, opened: &Names, place: Place, own: &Name) -> Result<Name, NoMemory> {
+    let file = opened.as_slice().get(place.file as usize).unwrap_or(own);
+    Name::from_slice(alloc, file.as_slice())
+}
+
 /// The ending for a rule that is broken in one of a unit's files.
-fn rejected(alloc: Global, broken: Broken, opened: &Names, unit: &Name) -> Ending
-    ensures { (file : List ℕ) (counts : FileCounts) → RefusesUnit result file counts }
+fn rejected(alloc: Global, broken: Broken, opened: &Names, own: &Name) -> Ending
+    ensures { (list : List PpToken) → IsBroken list broken → (name : List ℕ) (counts : FileCounts) → RefusesUnit result name counts }
 {
-    let file = opened.as_slice().get(broken.place.file as usize).unwrap_or(unit);
-    match Name::from_slice(alloc, file.as_slice()) {
+    match file_name(alloc, opened, broken.place, own) {
         Ok(file) => Ending::Rejected {
             rule: broken.rule,
             place: broken.place,
@@ -28,12 +35,12 @@ fn rejected(alloc: Global, broken: Broken, opened: &Names, unit: &Name) -> Endin
 }
 
 /// What the lexer says of a unit after phase 4: the rule that it breaks, or that its text is not built yet.
-fn lexed(alloc: Global, unit: &PpUnit, file: &Name) -> Ending
+fn lexed(alloc: Global, unit: &PpUnit, own: &Name) -> Ending
     ensures { (name : List ℕ) (counts : FileCounts) → RefusesUnit result name counts }
 {
     match tokens(alloc, unit) {
         Ok(_) => Ending::NotBuilt(Form::Text),
-        Err(Refused::Broken(broken)) => rejected(alloc, broken, &unit.opened, file),
+        Err(Refused::Broken(broken)) => rejected(alloc, broken, &unit.opened, own),
         Err(Refused::NoMemory) => Ending::NoMemory,
     }
 }

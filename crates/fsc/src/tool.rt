@@ -12,7 +12,7 @@ ghost use Rattle.plain_text.specs.Program.{IsPlain};
 ghost use Rattle.command_line.specs.Requests.{IsUsable};
 ghost use Rattle.fsc.specs.Words.{Asks, AsksRun, IsUnbuilt, NamesToRead, MayRead};
 ghost use Rattle.fsc.specs.Performing.{Performed};
-ghost use Rattle.fsc.specs.Tool.{Job, IsAsked, IsRunOf, RunsImage, AppendsAtLeast, IsEnd, IsUnless, IsRefusedText, IsNoted};
+ghost use Rattle.fsc.specs.Tool.{Job, IsAsked, IsRunOf, RunsImage, AppendsAtLeast, IsEnd, IsUnless, IsRefusedText, IsRejection, IsNoted};
 
 use crate::ending::{Ending, Form};
 use crate::go::go;
@@ -138,8 +138,8 @@ pub fn tool<F: Files, S: Source, O: Sink, E: Sink>(
         Asks words.now file steps → Holds (F.contents files.old) file (Some text) → ((program : Program) → IsPlain text program → ⊥) →
         IsRefusedText result }
     ensures rejected { (rule : Rule) (place : Place) (name : List ℕ) → result ≡ Ending.Rejected rule place name →
-        (file : List ℕ) × (steps : ℕ) × (text : List ℕ) × Asks words.now file steps × Holds (F.contents files.old) file (Some text) ×
-        ((program : Program) → IsPlain text program → ⊥) }
+        IsRejection rule place (F.absence_count files.old) (F.absence_count files.new) × ((file : List ℕ) × (steps : ℕ) × (text : List ℕ) × Asks words.now file steps × Holds (F.contents files.old) file (Some text) ×
+        ((program : Program) → IsPlain text program → ⊥)) }
     ensures missing { (name : List ℕ) → result ≡ Ending.MissingFile name → Rose (F.absence_count files.old) (F.absence_count files.new) ×
         NamesToRead words.now name × Holds (F.contents files.old) name None }
     ensures file_fault { (name : List ℕ) → result ≡ Ending.FileFault name → Rose (F.fault_count files.old) (F.fault_count files.new) ×
