@@ -29,8 +29,17 @@ pub struct BodyToken {
     pub role: Role,
 }
 
-/// The parameters of a macro, in order, and of each whether its argument is expanded.
-pub type Parameters = IndexMap<Vec<u8>, bool>;
+/// How a replacement list uses an argument.
+#[derive(Clone, Copy, Debug, PartialEq, Eq)]
+pub struct Uses {
+    /// It asks for the argument as it is.
+    pub raw: bool,
+    /// It asks for what the argument expands to.
+    pub expanded: bool,
+}
+
+/// The parameters of a macro, in order, and how its replacement list uses the argument of each.
+pub type Parameters = IndexMap<Vec<u8>, Uses>;
 
 /// A function-like macro.
 #[derive(Debug, Drop)]

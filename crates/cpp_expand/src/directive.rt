@@ -4,7 +4,7 @@ ghost use Rattle.std.specs.Prelude.{◌≡◌};
 ghost use Rattle.fsc_base.specs.declared.place.Refused.TheVariants as refusals;
 ghost use Rattle.cpp_expand.specs.Causes.{place_of_line};
 
-use crate::definition::{Function, Macro, Parameters};
+use crate::definition::{Function, Macro, Parameters, Uses};
 use crate::replacement::replacement_list;
 use fsc_base::{Broken, NoMemory, Place, Refused, Rule};
 use indexmap::IndexMap;
@@ -85,7 +85,11 @@ fn add_parameter(
     if parameters.contains_key(name) {
         return Ok(false);
     }
-    parameters.insert(Vec::from_slice(alloc, name)?, false)?;
+    let unused = Uses {
+        raw: false,
+        expanded: false,
+    };
+    parameters.insert(Vec::from_slice(alloc, name)?, unused)?;
     Ok(true)
 }
 

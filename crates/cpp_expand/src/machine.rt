@@ -94,13 +94,29 @@ impl<'a> Call<'a> {
     /// The first argument from an index on that is to be expanded.
     fn next_expanded(&self, from: usize) -> Option<usize> {
         for index in from..self.arguments.len() {
-            if let Some((_, is_expanded)) = self.function.parameters.get_index(index)
-                && *is_expanded
+            if let Some((_, uses)) = self.function.parameters.get_index(index)
+                && uses.expanded
             {
                 return Some(index);
             }
         }
         None
+    }
+
+    /// The tokens of an argument. They are taken out of the call, unless its replacement list asks for them too.
+    fn tokens_to_expand(&mut self, alloc: Global, index: usize) -> Result<Vec<Item<'a>>, NoMemory> {
+        let keeps = match self.function.parameters.get_index(index) {
+            Some((_, uses)) => uses.raw,
+            None => false,
+        };
+        let Some(argument) = self.arguments.get_mut(index) else {
+            return Ok(Vec::new(alloc));
+        };
+        if keeps {
+            Ok(Vec::from_slice(alloc, argument.raw.as_slice())?)
+        } else {
+            Ok(mem::replace(&mut argument.raw, Vec::new(alloc)))
+        }
     }
 }
 
@@ -241,10 +257,8 @@ impl<'a> Machine<'a> {
 
     /// Begins to expand an argument of a call, as if nothing stood behind it.
     fn expand_argument(&mut self, call: Call<'a>, index: usize) -> Result<(), NoMemory> {
-        let tokens = match call.arguments.get(index) {
-            Some(argument) => Vec::from_slice(self.alloc, argument.raw.as_slice())?,
-            None => Vec::new(self.alloc),
-        };
+        let mut call = call;
+        let tokens = call.tokens_to_expand(self.alloc, index)?;
         self.store.spend(tokens.len())?;
         let outer = mem::replace(&mut self.list, Listing::of(self.alloc, tokens));
         self.waiting.push(Waiting { outer, call, index })?;

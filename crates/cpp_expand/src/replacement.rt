@@ -60,16 +60,24 @@ impl Reading<'_> {
         Ok(())
     }
 
+    /// The role of a parameter that is an operand of `#` or `##`.
+    fn raw_role(&mut self, index: usize) -> Role {
+        if let Some(uses) = self.parameters.get_index_mut(index) {
+            uses.raw = true;
+        }
+        Role::Raw(index)
+    }
+
     /// The role of a token that is no operator, where these are behind it.
     fn operand_role(&mut self, token: &PpToken, behind: &[PpToken]) -> Role {
         let Some(index) = parameter_index(self.parameters, token) else {
             return Role::Token;
         };
         if self.after_paste || begins_paste(behind) {
-            return Role::Raw(index);
+            return self.raw_role(index);
         }
-        if let Some(is_expanded) = self.parameters.get_index_mut(index) {
-            *is_expanded = true;
+        if let Some(uses) = self.parameters.get_index_mut(index) {
+            uses.expanded = true;
         }
         Role::Expanded(index)
     }
@@ -89,7 +97,8 @@ impl Reading<'_> {
             return Ok(None);
         };
         self.add(hash, Role::Hash)?;
-        self.add(parameter, Role::Raw(index))?;
+        let role = self.raw_role(index);
+        self.add(parameter, role)?;
         Ok(Some(rest))
     }
 
