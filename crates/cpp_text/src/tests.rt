@@ -41,7 +41,11 @@ fn spelled(alloc: Global, unit: &PpUnit) -> Result<Vec<u8>, AllocError> {
 }
 
 /// The tokens of `t.c` with that text among these other files.
-fn tokens(alloc: Global, text: &[u8], others: &[(&[u8], &[u8])]) -> Result<Vec<u8>, AllocError> {
+fn tokens<'x>(
+    alloc: Global,
+    text: &'x [u8],
+    others: &[(&'x [u8], &'x [u8])],
+) -> Result<Vec<u8>, AllocError> {
     let mut pairs = Vec::from_slice(alloc, others)?;
     pairs.push((b"t.c", text))?;
     match unit(alloc, &pairs, &[]) {
@@ -51,10 +55,10 @@ fn tokens(alloc: Global, text: &[u8], others: &[(&[u8], &[u8])]) -> Result<Vec<u
 }
 
 /// The rule that `t.c` with that text breaks, with its file, the number of that and its line.
-fn rule(
+fn rule<'x>(
     alloc: Global,
-    text: &[u8],
-    others: &[(&[u8], &[u8])],
+    text: &'x [u8],
+    others: &[(&'x [u8], &'x [u8])],
 ) -> Result<Option<(Broken, Name)>, AllocError> {
     let mut pairs = Vec::from_slice(alloc, others)?;
     pairs.push((b"t.c", text))?;
