@@ -61,7 +61,7 @@ fn broken_rules_are_named(rt: HostRuntime) -> Result<(), NoMemory> {
     ] {
         let outcome = call(rt.alloc(), b"go t.c", text, &SOUND)?;
         assert_eq!(rt; outcome.notes.bytes(), notes);
-        assert_eq!(rt; outcome.out.bytes(), b"");
+        assert_eq!(rt; outcome.out.bytes(), b"".as_slice());
         assert_eq!(rt; status(&outcome.ending), 123);
         assert!(rt; outcome.made.is_none());
     }
@@ -79,7 +79,7 @@ fn texts_that_break_no_rule_are_not_built(rt: HostRuntime) -> Result<(), NoMemor
         b"a + b = c \\\n ??( 1 ??) /* odd */".as_slice(),
     ] {
         let outcome = call(rt.alloc(), b"go t.c", text, &SOUND)?;
-        assert_eq!(rt; outcome.notes.bytes(), b"not built\n");
+        assert_eq!(rt; outcome.notes.bytes(), b"not built\n".as_slice());
         assert_eq!(rt; status(&outcome.ending), 116);
     }
     Ok(())
@@ -88,7 +88,7 @@ fn texts_that_break_no_rule_are_not_built(rt: HostRuntime) -> Result<(), NoMemor
 #[test]
 fn a_failing_read_of_the_front_end_is_told(rt: HostRuntime) -> Result<(), NoMemory> {
     let outcome = call(rt.alloc(), b"go t.c", b"int x;\n", &FAILS_AGAIN)?;
-    assert_eq!(rt; outcome.notes.bytes(), b"fault t.c\n");
+    assert_eq!(rt; outcome.notes.bytes(), b"fault t.c\n".as_slice());
     assert_eq!(rt; status(&outcome.ending), 126);
     Ok(())
 }
