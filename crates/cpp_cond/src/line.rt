@@ -79,12 +79,7 @@ fn resolved(
 }
 
 /// Whether the value of an `#if` or `#elif` line, of which the tokens behind its name are given, is not 0.
-fn is_true(
-    alloc: Global,
-    tokens: &[PpToken],
-    macros: &Macros,
-    hash: Place,
-) -> Result<bool, Refused>
+fn is_true(alloc: Global, tokens: &[PpToken], macros: &Macros, hash: Place) -> Result<bool, Refused>
     ensures { IfErr result (Refuses OfCondition) }
 {
     let line = resolved(alloc, tokens, macros, hash)?;

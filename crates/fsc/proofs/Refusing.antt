@@ -18,7 +18,7 @@ use Rattle.fsc.specs.declared.ending.Ending.TheVariants.{Exited, Stopped, OutOfS
 use Rattle.fsc.specs.declared.ending.Form.TheVariants.{Command, Text}
 use Rattle.fsc.specs.Words.{Asks, IsUnbuilt, NamesToRead, MayRead}
 use Rattle.fsc.specs.Performing.{FileCounts, RefusesUnit, RefusesText, RefusesRead, RefusesFile, RefusesWords, Performed, refused, ran, ran_image}
-use Rattle.fsc.specs.Tool.{Job, IsAsked, Answers, IsEnd, IsUnless, IsUnlessFault, IsRefusedText, IsRejection}
+use Rattle.fsc.specs.Tool.{Job, IsAsked, Answers, IsEnd, IsUnless, IsRefusedText, IsRejection}
 use Rattle.fsc.proofs.Asking.{one_request, not_both, built, usable, one_text, not_missing}
 use Rattle.fsc.proofs.Performing.{said_is, not_of_image}
 
