@@ -19,7 +19,7 @@ use Rattle.access_methods.specs.declared.object.Object.{Object}
 use Rattle.access_methods.specs.Forms.{layout_in}
 use Rattle.access_methods.specs.Cells.{IsObjectIn}
 use Rattle.access_methods.proofs.Reading.{little_endian_bytes-word}
-use Rattle.access_methods.proofs.ValueWords.{length-little_endian_bytes}
+use Rattle.c_memory.proofs.LittleEndian.{length-little_endian_bytes}
 use Rattle.access_methods.specs.Objects.{Turns, with_content, with_byte, with_bytes_at, with_base_at, with_bases_at}
 use Rattle.access_methods.proofs.Overwriting.{overwritten_none, overwritten_more, overwritten_all, as_paste}
 use Rattle.access_methods.proofs.Turning.{turns_not, turns_then, turns_as}

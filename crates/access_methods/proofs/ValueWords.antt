@@ -1,36 +1,19 @@
 -- The words of a list of bytes, when a byte or a word of it is overwritten.
 use Rattle.std.proofs.Common.{◌≡◌, ◌≢◌, ℕ, zero, suc, ◌+◌, ◌-◌, ◌*◌, ◌/◌, ◌%◌, ◌^◌, ◌<◌, ◌≤◌, ◌⊎◌, inl, inr, List, [], ◌∷◌, ◌++◌, length, take, drop, get_or, set, All, refl, sym, ap, ◌∙◌, arith}
-use Rattle.std.proofs.Math.Arith.{mod-mul}
-use Rattle.std.proofs.Math.Nat.{pow-suc}
 use Rattle.std.proofs.lemmas.Bool.{cases_lt}
 use Rattle.std.proofs.lemmas.List.{length-take, length-drop, get_or-take, get_or-drop, drop-set-lt, drop-set-add, take-set-le, take_at, drop_at, drop-append-le, take-append-le, length-take-le, drop-drop, drop-take, take-take}
 use Rattle.std.proofs.lemmas.List.Elements.{All-nil, All-cons, All-head, All-tail, All-take, All-drop}
 use Rattle.c_memory.specs.Bytes.{little_endian, little_endian_bytes, overwritten}
+use Rattle.c_memory.proofs.LittleEndian.{length-little_endian_bytes, little_endian-little_endian_bytes}
 use Rattle.cell_store.specs.StandsFor.{value_word}
 
 abbrev IsByte : ℕ → Type 0
 IsByte byte = byte < 256
 
-pow_pos : (n : ℕ) → 0 < 256 ^ n
-pow_pos zero = omega arith
-pow_pos (suc n) = let e : 256 ^ suc n ≡ 256 ^ n * 256 = pow-suc 256 n in omega (arith, pow_pos n)
-
-pub length-little_endian_bytes : (n value : ℕ) → length (little_endian_bytes n value) ≡ n
-length-little_endian_bytes zero value = refl
-length-little_endian_bytes (suc n) value = ap suc (length-little_endian_bytes n (value / 256))
-
 pub All-little_endian_bytes : (n value : ℕ) → All IsByte (little_endian_bytes n value)
 All-little_endian_bytes zero value = All-nil IsByte
 All-little_endian_bytes (suc n) value =
     All-cons IsByte (value % 256) (little_endian_bytes n (value / 256)) (omega arith) (All-little_endian_bytes n (value / 256))
-
--- a number to bytes and back, with what does not fit lost
-pub little_endian-little_endian_bytes : (n value : ℕ) → little_endian (little_endian_bytes n value) ≡ value % 256 ^ n
-little_endian-little_endian_bytes zero value = omega arith
-little_endian-little_endian_bytes (suc n) value =
-    let e : 256 ^ suc n ≡ 256 ^ n * 256 = pow-suc 256 n in
-    let split = mod-mul value {m = 256 ^ n} {c = 256} (pow_pos n) (omega arith) in
-    rw e (omega (arith, little_endian-little_endian_bytes n (value / 256)))
 
 -- bytes to a number and back, with zeros for those that are not there
 spelled_low : (byte rest : ℕ) → byte < 256 → (byte + 256 * rest) % 256 ≡ byte

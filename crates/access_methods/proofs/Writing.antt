@@ -10,7 +10,7 @@ use Rattle.access_methods.specs.declared.object.Object.{Object}
 use Rattle.access_methods.specs.Forms.{layout_in}
 use Rattle.access_methods.specs.Objects.{Turns, with_byte, with_bytes_at, with_base_at}
 use Rattle.access_methods.specs.Cells.{IsObjectIn, value_in}
-use Rattle.access_methods.proofs.ValueWords.{length-little_endian_bytes}
+use Rattle.c_memory.proofs.LittleEndian.{length-little_endian_bytes}
 use Rattle.access_methods.proofs.Turning.{byte_turns, base_turns, word_turns}
 use Rattle.access_methods.proofs.Reading.{little_endian-word, little_endian_bytes-word, at_place}
 

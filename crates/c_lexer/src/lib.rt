@@ -13,7 +13,9 @@ mod token;
 
 pub use keyword::{Keyword, read_keyword};
 pub use lexing::{lex, one_meaning, tokens};
+pub use literal::{add_string, character_constant};
 pub use punctuator::{Punctuator, read_punctuator};
+pub use single::number;
 pub use token::{BasicType, Token, TokenKind, Tokens};
 
 #[cfg(test)]

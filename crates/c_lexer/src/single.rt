@@ -28,7 +28,7 @@ fn name(alloc: Global, text: &[u8]) -> Result<TokenKind, NoMemory>
 
 /// The integer constant that is spelled so. L04 where it is above 2^32 - 1, L01 where it is a floating constant, K44
 /// where it is neither.
-fn number(text: &[u8]) -> Result<TokenKind, Rule>
+pub fn number(text: &[u8]) -> Result<TokenKind, Rule>
     ensures { IsKind pp.Number text.now result }
 {
     let Some(constant) = read_integer(text) else {

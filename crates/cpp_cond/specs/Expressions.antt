@@ -1,7 +1,7 @@
 -- Integral constant expressions and their values (C90 6.3, 6.4 and 6.8.1).
-use Rattle.std.specs.Prelude.{◌≡◌, ◌&&◌, ◌||◌, not, Bool, true, false, List, [], ◌∷◌, ◌++◌, ℕ, codes, Option, Some, None}
+use Rattle.std.specs.Prelude.{◌≡◌, ◌&&◌, ◌||◌, not, Bool, false, List, [], ◌∷◌, ◌++◌, ℕ, codes, Some, None}
 use Rattle.pp_token.specs.declared.token.PpToken.{PpToken}
-use Rattle.pp_token.specs.declared.token.PpKind.TheVariants.{Name, Punct}
+use Rattle.pp_token.specs.declared.token.PpKind.TheVariants.{Name}
 use Rattle.cpp_expand.specs.Tokens.{IsPunct}
 use Rattle.cpp_cond.specs.declared.value.Value.{Value}
 use Rattle.cpp_cond.specs.declared.operator.Unary.{Unary}
@@ -10,6 +10,7 @@ use Rattle.cpp_cond.specs.declared.operator.Binary.{Binary}
 use Rattle.cpp_cond.specs.declared.operator.Binary.TheVariants as binary
 use Rattle.cpp_cond.specs.declared.operator.Level.{Level}
 use Rattle.cpp_cond.specs.declared.operator.Level.TheVariants as level
+use Rattle.cpp_cond.specs.Constants.{IsConstant}
 use Rattle.cpp_cond.specs.Values.{truth, is_true, joint, unary_value, binary_value, choice_of}
 
 -- how the operators are spelled
@@ -72,29 +73,29 @@ tighter level.Additive = level.Multiplicative
 tighter level.Multiplicative = level.Unary
 tighter level.Unary = level.Unary
 
--- The tokens are an expression of that level, with that value. `constant` gives the values of constants, and `live` says
--- whether the expression is evaluated: only what is evaluated can't divide by zero.
-pub data Computes (constant : PpToken → Option Value) : (live : Bool) → Level → List PpToken → Value → Type 0 where
-  constant : (live : Bool) (token : PpToken) (value : Value) → constant token ≡ Some value → Computes constant live level.Unary (token ∷ []) value
+-- The tokens are an expression of that level, with that value. `live` says whether the expression is evaluated: only what
+-- is evaluated can't divide by zero.
+pub data Computes : (live : Bool) → Level → List PpToken → Value → Type 0 where
+  constant : (live : Bool) (token : PpToken) (value : Value) → IsConstant token value → Computes live level.Unary (token ∷ []) value
   -- a name that is left after expansion
-  name : (live : Bool) (token : PpToken) → token.kind ≡ Name → Computes constant live level.Unary (token ∷ []) (truth false)
+  name : (live : Bool) (token : PpToken) → token.kind ≡ Name → Computes live level.Unary (token ∷ []) (truth false)
   parenthesis : (live : Bool) (opening closing : PpToken) (inside : List PpToken) (value : Value) → IsPunct (codes "(") opening → IsPunct (codes ")") closing
-      → Computes constant live level.Conditional inside value → Computes constant live level.Unary (opening ∷ inside ++ closing ∷ []) value
+      → Computes live level.Conditional inside value → Computes live level.Unary (opening ∷ inside ++ closing ∷ []) value
   one : (live : Bool) (operator : Unary) (token : PpToken) (operand : List PpToken) (value : Value) → IsPunct (unary_spelling operator) token
-      → Computes constant live level.Unary operand value → Computes constant live level.Unary (token ∷ operand) (unary_value operator value)
+      → Computes live level.Unary operand value → Computes live level.Unary (token ∷ operand) (unary_value operator value)
   two : (live : Bool) (operator : Binary) (token : PpToken) (left right : List PpToken) (a b value : Value) → IsPunct (binary_spelling operator) token
-      → Computes constant live (level_of operator) left a → Computes constant live (tighter (level_of operator)) right b → binary_value operator a b ≡ Some value
-      → Computes constant live (level_of operator) (left ++ token ∷ right) value
+      → Computes live (level_of operator) left a → Computes live (tighter (level_of operator)) right b → binary_value operator a b ≡ Some value
+      → Computes live (level_of operator) (left ++ token ∷ right) value
   -- a division by zero that is not evaluated
   unused : (operator : Binary) (token : PpToken) (left right : List PpToken) (a b : Value) → IsPunct (binary_spelling operator) token
-      → Computes constant false (level_of operator) left a → Computes constant false (tighter (level_of operator)) right b → binary_value operator a b ≡ None
-      → Computes constant false (level_of operator) (left ++ token ∷ right) (joint a b a.bits)
-  both : (live : Bool) (token : PpToken) (left right : List PpToken) (a b : Value) → IsPunct (codes "&&") token → Computes constant live level.LogicalAnd left a
-      → Computes constant (live && is_true a) level.Or right b → Computes constant live level.LogicalAnd (left ++ token ∷ right) (truth (is_true a && is_true b))
-  either : (live : Bool) (token : PpToken) (left right : List PpToken) (a b : Value) → IsPunct (codes "||") token → Computes constant live level.LogicalOr left a
-      → Computes constant (live && not (is_true a)) level.LogicalAnd right b → Computes constant live level.LogicalOr (left ++ token ∷ right) (truth (is_true a || is_true b))
+      → Computes false (level_of operator) left a → Computes false (tighter (level_of operator)) right b → binary_value operator a b ≡ None
+      → Computes false (level_of operator) (left ++ token ∷ right) (joint a b a.bits)
+  both : (live : Bool) (token : PpToken) (left right : List PpToken) (a b : Value) → IsPunct (codes "&&") token → Computes live level.LogicalAnd left a
+      → Computes (live && is_true a) level.Or right b → Computes live level.LogicalAnd (left ++ token ∷ right) (truth (is_true a && is_true b))
+  either : (live : Bool) (token : PpToken) (left right : List PpToken) (a b : Value) → IsPunct (codes "||") token → Computes live level.LogicalOr left a
+      → Computes (live && not (is_true a)) level.LogicalAnd right b → Computes live level.LogicalOr (left ++ token ∷ right) (truth (is_true a || is_true b))
   choice : (live : Bool) (question colon : PpToken) (condition first second : List PpToken) (c a b : Value) → IsPunct (codes "?") question → IsPunct (codes ":") colon
-      → Computes constant live level.LogicalOr condition c → Computes constant (live && is_true c) level.Conditional first a → Computes constant (live && not (is_true c)) level.Conditional second b
-      → Computes constant live level.Conditional (condition ++ question ∷ first ++ colon ∷ second) (choice_of (is_true c) a b)
+      → Computes live level.LogicalOr condition c → Computes (live && is_true c) level.Conditional first a → Computes (live && not (is_true c)) level.Conditional second b
+      → Computes live level.Conditional (condition ++ question ∷ first ++ colon ∷ second) (choice_of (is_true c) a b)
   -- an expression of a tighter level
-  looser : (live : Bool) (looser : Level) (tokens : List PpToken) (value : Value) → Computes constant live (tighter looser) tokens value → Computes constant live looser tokens value
+  looser : (live : Bool) (looser : Level) (tokens : List PpToken) (value : Value) → Computes live (tighter looser) tokens value → Computes live looser tokens value

@@ -1,6 +1,6 @@
 -- Values of controlling expressions: longs and unsigned longs of 32 bits, a long in two's complement (C90 6.2.1.5, 6.3
 -- and 6.8.1).
-use Rattle.std.specs.Prelude.{ℕ, ◌+◌, ◌-◌, ◌*◌, ◌/◌, ◌%◌, ◌^◌, ◌==◌, ◌||◌, not, nat_lt, Bool, true, false, if◌then◌else◌, Option, Some, None, bit_and, bit_or, bit_xor, ℤ, int_lt, int_div, int_rem}
+use Rattle.std.specs.Prelude.{ℕ, ◌+◌, ◌-◌, ◌*◌, ◌/◌, ◌%◌, ◌^◌, ◌==◌, ◌||◌, not, nat_lt, Bool, false, if◌then◌else◌, Option, Some, None, bit_and, bit_or, bit_xor, ℤ, int_lt, int_div, int_rem}
 use Rattle.std.specs.Int.{w32, cast_unsigned, cast_signed, int_shr}
 use Rattle.cpp_cond.specs.declared.value.Value.{Value}
 use Rattle.cpp_cond.specs.declared.operator.Unary.{Unary}

@@ -1,14 +1,12 @@
 //! Whether a group of a conditional inclusion is read: the lines `#if`, `#elif`, `#ifdef` and `#ifndef` (C90 6.8.1).
 #![tactic(auto)]
 
-mod constant;
 mod evaluation;
 mod line;
 mod operator;
 mod term;
 mod value;
 
-pub use constant::{NoValue, first_character};
 pub use line::condition;
 
 #[cfg(test)]

@@ -1,11 +1,15 @@
 //! The tokens of a controlling expression.
 
 ghost use Rattle.std.specs.Prelude.{◌≡◌, IfErr};
+ghost use Rattle.fsc_base.specs.declared.place.Refused.TheVariants as refusals;
+ghost use Rattle.c_lexer.specs.Answers.{IsKind};
 ghost use Rattle.cpp_cond.specs.Causes.{OfTerm};
+ghost use Rattle.cpp_cond.specs.Terms.{IsTerm, Reads};
+ghost use Rattle.cpp_cond.specs.Constants.{IsConstantKind};
 ghost use Rattle.cpp_expand.specs.Causes.{Refuses};
 
-use crate::constant::{NoValue, character, number};
 use crate::value::Value;
+use c_lexer::{TokenKind, character_constant, number};
 use fsc_base::{Broken, Place, Refused, Rule};
 use pp_token::{PpKind, PpToken};
 
@@ -27,37 +31,48 @@ pub fn no_expression(place: Place) -> Refused
     })
 }
 
-/// The refusal of a constant without a value, which stands at `place` in the line of that `#`.
-fn no_value(reason: NoValue, place: Place, hash: Place) -> Refused
-    ensures { Refuses OfTerm result }
+/// The refusal of a token by a rule that it breaks itself.
+fn broken(rule: Rule, place: Place) -> Refused
+    ensures { result ≡ refusals.Broken (record { rule = rule; place = place }) }
 {
-    let rule = match reason {
-        NoValue::Floating => return no_expression(hash),
-        NoValue::TooLarge => Rule::L04,
-        NoValue::Several => Rule::L06,
-        NoValue::BadEscape => Rule::K45,
-        NoValue::NoToken => Rule::K44,
-    };
     Refused::Broken(Broken { rule, place })
 }
 
-/// What a token is in the expression of the line of that `#`. A name is 0. Refused by K35 where it can stand in no
-/// integral constant expression, or as a constant without a value, or by K44 where it is no token.
-pub fn read_term(token: &PpToken, hash: Place) -> Result<Term<'_>, Refused>
-    ensures { IfErr result (Refuses OfTerm) }
+/// A constant as an operand, as it was read. Refused by K35 at that `#` where it is a floating one, and else by the rule
+/// that it breaks, at its place.
+#[tactic(auto, using(crate::proofs::Constants::is_constant_token))]
+fn constant<'a>(
+    token: &PpToken,
+    read: Result<TokenKind, Rule>,
+    hash: Place,
+) -> Result<Term<'a>, Refused>
+    requires kind { IsConstantKind token.now.kind }
+    requires read { IsKind token.now.kind token.now.text read }
+    ensures { Reads token.now hash result }
 {
-    let read = match token.kind {
-        PpKind::Name => return Ok(Term::Operand(Value::truth(false))),
-        PpKind::Punct => return Ok(Term::Punct(token.text.as_slice())),
-        PpKind::Number => number(token.text.as_slice()),
-        PpKind::Char => character(token.text.as_slice()),
-        PpKind::Other => Err(NoValue::NoToken),
-        PpKind::Str | PpKind::Header | PpKind::LineEnd | PpKind::End => {
-            return Err(no_expression(hash));
-        }
-    };
     match read {
-        Ok(value) => Ok(Term::Operand(value)),
-        Err(reason) => Err(no_value(reason, token.place, hash)),
+        Ok(kind) => Ok(Term::Operand(Value::of_constant(&kind))),
+        Err(Rule::L01) => Err(broken(Rule::K35, hash)),
+        Err(rule) => Err(broken(rule, token.place)),
+    }
+}
+
+/// What a token is in the expression of the line of that `#`. A name is 0. Refused by K35 at the `#` where it can stand in
+/// no integral constant expression, as a floating constant, a string or a header name; at its own place by L04 or L06 where
+/// it is a constant without a value, by K45 where it has an escape that is none, and by K44 where it is no token.
+pub fn read_term(token: &PpToken, hash: Place) -> Result<Term<'_>, Refused>
+    ensures reads { Reads token.now hash result }
+    ensures refused { IfErr result (Refuses OfTerm) }
+{
+    let text = token.text.as_slice();
+    match token.kind {
+        PpKind::Name => Ok(Term::Operand(Value::truth(false))),
+        PpKind::Punct => Ok(Term::Punct(text)),
+        PpKind::Number => constant(token, number(text), hash),
+        PpKind::Char => constant(token, character_constant(text), hash),
+        PpKind::Other => Err(broken(Rule::K44, token.place)),
+        PpKind::Str | PpKind::Header | PpKind::LineEnd | PpKind::End => {
+            Err(broken(Rule::K35, hash))
+        }
     }
 }

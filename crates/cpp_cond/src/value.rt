@@ -2,6 +2,8 @@
 
 ghost use Rattle.std.specs.Prelude.{◌≡◌};
 
+use c_lexer::{BasicType, TokenKind};
+
 /// A value of a controlling expression. All of its integers are 32 bits wide there (C90 6.8.1): signed types act as
 /// long, unsigned ones as unsigned long.
 #[derive(Clone, Copy, Debug, PartialEq, Eq)]
@@ -13,7 +15,31 @@ pub struct Value {
 }
 
 impl Value {
+    ghost use Rattle.std.specs.Prelude.{Some};
+    ghost use Rattle.cpp_cond.specs.Constants.{constant_value, IsConstantToken};
     ghost use Rattle.cpp_cond.specs.Values.{truth, is_true, joint, alike};
+
+    /// The value of a constant: unsigned int acts as unsigned long, the other types as themselves or as long.
+    pub fn of_constant(kind: &TokenKind) -> Value
+        requires { IsConstantToken kind.now }
+        ensures { constant_value kind.now ≡ Some result }
+    {
+        match kind {
+            TokenKind::Int(bits, basic) => Value {
+                bits: *bits,
+                is_unsigned: matches!(*basic, BasicType::Unsigned | BasicType::UnsignedLong),
+            },
+            TokenKind::Char(bits) => Value {
+                bits: *bits,
+                is_unsigned: false,
+            },
+            TokenKind::Name(_) => unreachable!(),
+            TokenKind::Keyword(_) => unreachable!(),
+            TokenKind::Str(_) => unreachable!(),
+            TokenKind::Punct(_) => unreachable!(),
+            TokenKind::End => unreachable!(),
+        }
+    }
 
     /// What a comparison answers: the long 1 or 0.
     pub fn truth(holds: bool) -> Value

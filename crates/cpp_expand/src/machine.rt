@@ -38,6 +38,8 @@ struct Call<'a> {
     /// The hide set that each token of the replacement gets.
     hide: HideId,
     arguments: Vec<Argument<'a>>,
+    /// How many tokens the arguments have, as they are and expanded.
+    size: usize,
 }
 
 /// A call that waits for an argument to be expanded.
@@ -48,6 +50,8 @@ struct Waiting<'a> {
     call: Call<'a>,
     /// Which argument is expanded.
     index: usize,
+    /// How many tokens the list and the call keep.
+    size: usize,
 }
 
 /// An expansion under way.
@@ -88,6 +92,18 @@ impl<'a> Listing<'a> {
             given: Vec::new(alloc),
         }
     }
+
+    /// Gives memory back where most of it is that of tokens which were taken out.
+    fn compact(&mut self) {
+        if self.pending.len() < self.pending.capacity() / 2 {
+            self.pending.shrink_to_fit();
+        }
+    }
+
+    /// How many tokens it has.
+    fn size(&self) -> usize {
+        self.pending.len().saturating_add(self.given.len())
+    }
 }
 
 impl<'a> Call<'a> {
@@ -115,7 +131,16 @@ impl<'a> Call<'a> {
         if keeps {
             Ok(Vec::from_slice(alloc, argument.raw.as_slice())?)
         } else {
+            self.size = self.size.saturating_sub(argument.raw.len());
             Ok(mem::replace(&mut argument.raw, Vec::new(alloc)))
+        }
+    }
+
+    /// Takes what an argument expands to.
+    fn take_expanded(&mut self, index: usize, tokens: Vec<Item<'a>>) {
+        if let Some(argument) = self.arguments.get_mut(index) {
+            self.size = self.size.saturating_add(tokens.len());
+            argument.expanded = tokens;
         }
     }
 }
@@ -226,7 +251,9 @@ impl<'a> Machine<'a> {
             return Err(broken(Rule::K38, name.place));
         };
         let mut arguments = Vec::new(self.alloc);
+        let mut size: usize = 0;
         for raw in lists {
+            size = size.saturating_add(raw.len());
             arguments.push(Argument {
                 raw,
                 expanded: Vec::new(self.alloc),
@@ -240,6 +267,7 @@ impl<'a> Machine<'a> {
                 function,
                 hide,
                 arguments,
+                size,
             },
             0,
         )
@@ -260,8 +288,16 @@ impl<'a> Machine<'a> {
         let mut call = call;
         let tokens = call.tokens_to_expand(self.alloc, index)?;
         self.store.spend(tokens.len())?;
-        let outer = mem::replace(&mut self.list, Listing::of(self.alloc, tokens));
-        self.waiting.push(Waiting { outer, call, index })?;
+        let mut outer = mem::replace(&mut self.list, Listing::of(self.alloc, tokens));
+        outer.compact();
+        let size = outer.size().saturating_add(call.size);
+        self.store.hold(size)?;
+        self.waiting.push(Waiting {
+            outer,
+            call,
+            index,
+            size,
+        })?;
         Ok(())
     }
 
@@ -279,14 +315,21 @@ impl<'a> Machine<'a> {
     fn end(&mut self) -> Result<Progression, Refused>
         ensures { IfErr result (Refuses OfExpand) }
     {
-        let Some(Waiting { outer, call, index }) = self.waiting.pop() else {
+        let Some(
+            Waiting {
+                outer,
+                call,
+                index,
+                size,
+            },
+        ) = self.waiting.pop()
+        else {
             return Ok(Progression::Done);
         };
+        self.store.release(size);
         let inner = mem::replace(&mut self.list, outer);
         let mut call = call;
-        if let Some(argument) = call.arguments.get_mut(index) {
-            argument.expanded = inner.given;
-        }
+        call.take_expanded(index, inner.given);
         self.proceed(call, index.saturating_add(1))?;
         Ok(Progression::GoesOn)
     }
@@ -379,8 +422,10 @@ impl<'a> Machine<'a> {
         Err(Refused::NoMemory)
     }
 
-    /// A token that was given out, as one of its own, without a hide set.
-    fn own_token(&self, token: &Item<'a>) -> Result<PpToken, NoMemory> {
+    /// A token that was given out, as one of its own, without a hide set. Each byte counts as work.
+    fn own_token(&mut self, token: Item<'a>) -> Result<PpToken, NoMemory> {
+        let length = self.store.bytes(token.text).len();
+        self.store.spend(length)?;
         Ok(PpToken {
             kind: token.kind,
             text: Bytes::from_slice(self.alloc, self.store.bytes(token.text))?,
@@ -391,9 +436,10 @@ impl<'a> Machine<'a> {
     }
 
     /// What was given out.
-    fn answer(&self) -> Result<PpTokens, NoMemory> {
-        let mut tokens = Vec::with_capacity(self.alloc, self.list.given.len())?;
-        for token in self.list.given.as_slice() {
+    fn answer(&mut self) -> Result<PpTokens, NoMemory> {
+        let given = mem::replace(&mut self.list.given, Vec::new(self.alloc));
+        let mut tokens = Vec::with_capacity(self.alloc, given.len())?;
+        for token in given {
             tokens.push(self.own_token(token)?)?;
         }
         Ok(PpTokens::from_vec(tokens))

@@ -6,13 +6,16 @@ use fsc_base::NoMemory;
 use pp_token::PpKind;
 use std::alloc::Global;
 
-/// How much one call may do: each token that is taken or put anywhere, and each name of a hide set that is looked at,
-/// counts as one. No C text has use for so much. A bomb of macros that expands to nothing would run for ages; it ends
+/// How much one call may do: each token that is taken or put anywhere, each byte of a text that is made, and each name of a
+/// hide set that is looked at, counts as one. No C text has use for so much. A bomb of macros that expands to nothing would run for ages; it ends
 /// here, as for want of memory.
 pub const MOST_WORK: u64 = 1 << 30;
 
 /// The most tokens that one list may have on the way. A unit has at most 2^20 of them in the end.
 const LONGEST_LIST: usize = 1 << 24;
+
+/// The most tokens that calls which wait for their arguments may keep together.
+const MOST_HELD: usize = 1 << 24;
 
 /// What the tokens of one expansion share.
 #[derive(Drop)]
@@ -21,6 +24,8 @@ pub struct Store {
     texts: Vec<Vec<u8>>,
     sets: HideSets,
     work_left: u64,
+    /// How many tokens the calls keep that wait.
+    held: usize,
 }
 
 impl Store {
@@ -31,6 +36,7 @@ impl Store {
             texts: Vec::new(alloc),
             sets: HideSets::new(alloc),
             work_left: MOST_WORK,
+            held: 0,
         }
     }
 
@@ -50,8 +56,9 @@ impl Store {
         }
     }
 
-    /// Keeps a text that was made.
+    /// Keeps a text that was made. Each of its bytes counts as work.
     pub fn keep<'a>(&mut self, bytes: Vec<u8>) -> Result<Text<'a>, NoMemory> {
+        self.spend(bytes.len())?;
         let index = self.texts.len();
         self.texts.push(bytes)?;
         Ok(Text::Made(index))
@@ -79,6 +86,33 @@ impl Store {
         }
         list.push(token)?;
         Ok(())
+    }
+
+    /// Puts tokens at the end of a list.
+    pub fn put_all<'a>(
+        &mut self,
+        list: &mut Vec<Item<'a>>,
+        tokens: &[Item<'a>],
+    ) -> Result<(), NoMemory> {
+        self.spend(tokens.len())?;
+        if tokens.len() > LONGEST_LIST.saturating_sub(list.len()) {
+            return Err(NoMemory);
+        }
+        Ok(list.extend_from_slice(tokens)?)
+    }
+
+    /// Counts tokens that a call which waits keeps. Refused where there are too many.
+    pub fn hold(&mut self, count: usize) -> Result<(), NoMemory> {
+        self.held = self.held.saturating_add(count);
+        if self.held > MOST_HELD {
+            return Err(NoMemory);
+        }
+        Ok(())
+    }
+
+    /// Tokens that were counted are kept no more.
+    pub fn release(&mut self, count: usize) {
+        self.held = self.held.saturating_sub(count);
     }
 
     /// Whether a hide set has the macro of this index.

@@ -192,7 +192,6 @@ impl<'s, 'a> Site<'s, 'a> {
     {
         let mut text = Vec::from_slice(store.alloc(), store.bytes(left.text))?;
         text.extend_from_slice(store.bytes(right.text))?;
-        store.spend(text.len())?;
         let Some(kind) = kind_of(text.as_slice()) else {
             return Err(Refused::Broken(Broken {
                 rule: Rule::K42,
@@ -228,8 +227,7 @@ impl<'s, 'a> Site<'s, 'a> {
             None => *first,
         };
         store.put(left, joint)?;
-        store.spend(rest.len())?;
-        Ok(left.extend_from_slice(rest)?)
+        Ok(store.put_all(left, rest)?)
     }
 
     /// Takes each `##` and its right operand from the front of a list. The list behind.
@@ -290,8 +288,7 @@ impl<'a> Output<'a> {
         };
         self.owes_space = false;
         store.put(&mut self.tokens, Item { spaced, ..*first })?;
-        store.spend(rest.len())?;
-        Ok(self.tokens.extend_from_slice(rest)?)
+        store.put_all(&mut self.tokens, rest)
     }
 }
 

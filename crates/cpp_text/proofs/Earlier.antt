@@ -1,8 +1,7 @@
 -- What stops a call stops each call that made it.
-use Rattle.std.proofs.Common.{◌≡◌, ℕ, ◌+◌, ◌^◌, ◌<◌, ◌≤◌, List, ◌⊎◌, inl, inr, sym, ◌∙◌, subst, arith}
+use Rattle.std.proofs.Common.{◌≡◌, ℕ, ◌+◌, ◌^◌, ◌<◌, ◌≤◌, List, inl, inr, sym, ◌∙◌, subst, arith}
 use Rattle.std.specs.Prelude.{IsSome}
 use Rattle.fsc_outside.specs.Counts.{Rose}
-use Rattle.fsc_outside.specs.FileMap.{Holds}
 use Rattle.fsc_base.specs.declared.place.Refused.{Refused}
 use Rattle.fsc_base.specs.declared.place.Refused.TheVariants as reasons
 use Rattle.cpp_text.specs.Outside.{Outside, Fails, Misses, StopsSearch, StopsLine, Breaks, RefusesUnit, IsOfText, NamesFault, NamesBroken, Answers}

@@ -1,5 +1,5 @@
 -- What phase 3 gives: a list with an End, or one of its two rules.
-use Rattle.std.proofs.Common.{◌≡◌, ℕ, zero, suc, ◌+◌, ◌-◌, ◌^◌, ◌<◌, ◌⊎◌, inl, inr, List, [], ◌∷◌, length, Bool, true, false, Result, Ok, Err, IfOk, IfErr, refl, sym, subst, lit<, nat_lt, arith, if◌then◌else◌}
+use Rattle.std.proofs.Common.{◌≡◌, ℕ, zero, suc, ◌-◌, ◌^◌, ◌<◌, ◌⊎◌, inl, inr, List, [], ◌∷◌, length, Bool, true, false, Result, Ok, Err, IfOk, IfErr, refl, subst, lit<, nat_lt, arith, if◌then◌else◌}
 use Rattle.fsc_base.specs.declared.place.Broken.{Broken}
 use Rattle.fsc_base.specs.declared.place.Refused.{Refused}
 use Rattle.fsc_base.specs.declared.place.Refused.TheVariants as refusals
@@ -14,7 +14,7 @@ use Rattle.pp_token.specs.declared.piece.Spot.{Spot}
 use Rattle.pp_token.specs.declared.piece.Spot.TheVariants.{LineStart}
 use Rattle.pp_token.specs.Characters.{bytes_of, lines_of, characters_of, end_of}
 use Rattle.pp_token.specs.declared.reading.Source.{Source}
-use Rattle.pp_token.specs.Tokens.{put, given, phase_3, tokens_of, Gives, token_of, piece_at, spot_behind, is_space, length_of}
+use Rattle.pp_token.specs.Tokens.{put, given, phase_3, tokens_of, Gives, piece_at, spot_behind, is_space, length_of}
 
 -- a token is there, or it is one of these rules
 abbrev pub Shaped : Result (List PpToken) Broken → Type 0

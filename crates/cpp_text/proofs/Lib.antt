@@ -1,3 +1,4 @@
+pub mod Contents
 pub mod Earlier
 pub mod FileTokens
 pub mod Nesting

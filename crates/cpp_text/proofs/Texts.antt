@@ -1,5 +1,5 @@
 -- What each part of phase 4 is refused for, the whole is.
-use Rattle.std.proofs.Common.{◌≡◌, ◌⊎◌, inl, inr}
+use Rattle.std.proofs.Common.{inl, inr}
 use Rattle.fsc_base.specs.declared.place.Place.{Place}
 use Rattle.fsc_base.specs.declared.place.Refused.{Refused}
 use Rattle.fsc_base.specs.declared.place.Refused.TheVariants as refusals

@@ -1,5 +1,6 @@
 pub mod Breaking
 pub mod Causes
+pub mod Contents
 pub mod Directives
 pub mod Lines
 pub mod Outside

@@ -1,7 +1,7 @@
 -- Lines, directives and conditional groups (C90 6.8 and 6.8.1).
-use Rattle.std.specs.Prelude.{◌≡◌, ◌≢◌, ◌⊎◌, Bool, true, false, List, [], ◌∷◌, ◌++◌, ℕ, codes}
+use Rattle.std.specs.Prelude.{◌≡◌, ◌⊎◌, Bool, true, false, List, [], ◌∷◌, ◌++◌, ℕ, codes}
 use Rattle.pp_token.specs.declared.token.PpToken.{PpToken}
-use Rattle.pp_token.specs.declared.token.PpKind.TheVariants.{LineEnd, Other}
+use Rattle.pp_token.specs.declared.token.PpKind.TheVariants.{Other}
 use Rattle.cpp_expand.specs.Tokens.{IsPunct, IsLineEnd}
 use Rattle.cpp_expand.specs.Defining.{IsWord}
 

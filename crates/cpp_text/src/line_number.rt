@@ -1,15 +1,16 @@
 //! The line `#line` (C90 6.8.4).
 
-ghost use Rattle.std.specs.Prelude.{IfErr};
+ghost use Rattle.std.specs.Prelude.{IfErr, IfOk};
 ghost use Rattle.cpp_expand.specs.Causes.{Refuses};
 ghost use Rattle.cpp_text.specs.Causes.{OfText};
+ghost use Rattle.cpp_text.specs.Contents.{IsContent};
 
 use crate::directive::operands;
 use crate::header_name::copies;
 use crate::refusal::broken;
-use cpp_cond::first_character;
+use c_lexer::add_string;
 use cpp_expand::Macros;
-use fsc_base::{Name, Place, Refused, Rule};
+use fsc_base::{Name, NoMemory, Place, Refused, Rule};
 use pp_token::{PpKind, PpToken};
 use std::alloc::Global;
 
@@ -43,24 +44,16 @@ fn line_number(digits: &[u8]) -> Option<u32> {
     }
 }
 
-/// What stands between the quotes of a string literal, escape sequences read. None where it is wide or has an escape
-/// sequence that is none.
-fn string_content(alloc: Global, text: &[u8]) -> Result<Option<Name>, Refused>
-    ensures { IfErr result (Refuses OfText) }
+/// The bytes of a string literal. None where it is wide or has an escape sequence that is none.
+fn string_content(alloc: Global, string: &PpToken) -> Result<Option<Name>, NoMemory>
+    ensures { IfOk result (IsContent string.now.text) }
 {
-    let [b'"', inner @ .., b'"'] = text else {
-        return Ok(None);
-    };
     let mut name = Vec::new(alloc);
-    let mut rest = inner;
-    while !rest.is_empty() {
-        let Ok((byte, behind)) = first_character(rest) else {
-            return Ok(None);
-        };
-        name.push(byte)?;
-        rest = behind;
+    match add_string(&mut name, string.text.as_slice(), string.place) {
+        Ok(()) => Ok(Some(Name::from_vec(name))),
+        Err(Refused::Broken(_)) => Ok(None),
+        Err(Refused::NoMemory) => Err(NoMemory),
     }
-    Ok(Some(Name::from_vec(name)))
 }
 
 /// What expanded operands of `#line` say, or None where they are no number with an optional string.
@@ -80,7 +73,7 @@ fn read(alloc: Global, tokens: &[PpToken]) -> Result<Option<LineNumber>, Refused
     };
     match string {
         None => Ok(Some(LineNumber { number, name: None })),
-        Some(string) => match string_content(alloc, string.text.as_slice())? {
+        Some(string) => match string_content(alloc, string)? {
             None => Ok(None),
             Some(name) => Ok(Some(LineNumber {
                 number,

@@ -1,4 +1,4 @@
-use Rattle.std.proofs.Common.{◌+◌, ◌<◌, vec_len, refl, arith}
+use Rattle.std.proofs.Common.{◌<◌, vec_len, refl, arith}
 use Rattle.cpp_text.proofs.Nesting.{shorter, nested, ended}
 use Rattle.cpp_text.proofs.reading.Reading.step.Goals as goal
 use Rattle.cpp_text.proofs.reading.Reading.step.Goals.{in-Some+in_ok-include, in_default}
