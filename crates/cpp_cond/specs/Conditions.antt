@@ -1,5 +1,5 @@
 -- Which groups of a conditional inclusion are read, and what a line of a condition breaks (C90 6.8.1).
-use Rattle.std.specs.Prelude.{◌≡◌, ◌≢◌, ◌⊎◌, not, Bool, true, List, [], ◌∷◌, ◌++◌, ℕ, codes, is_some, if◌then◌else◌}
+use Rattle.std.specs.Prelude.{◌≡◌, ◌≢◌, ◌⊎◌, not, Bool, List, [], ◌∷◌, ◌++◌, ℕ, codes, is_some, if◌then◌else◌}
 use Rattle.fsc_base.specs.declared.place.Place.{Place}
 use Rattle.fsc_base.specs.declared.rule.Rule.{Rule}
 use Rattle.fsc_base.specs.declared.rule.Rule.TheVariants.{K35}
@@ -11,10 +11,9 @@ use Rattle.cpp_expand.specs.Refusing.{BrokenExpand}
 use Rattle.cpp_expand.specs.Table.{Table}
 use Rattle.cpp_expand.specs.Tokens.{IsPunct}
 use Rattle.cpp_cond.specs.declared.value.Value.{Value}
-use Rattle.cpp_cond.specs.declared.operator.Level.TheVariants.{Conditional}
 use Rattle.cpp_cond.specs.Constants.{BreaksAlone}
 use Rattle.cpp_cond.specs.Values.{is_true}
-use Rattle.cpp_cond.specs.Expressions.{Computes}
+use Rattle.cpp_cond.specs.Terms.{HasValue}
 
 abbrev pub is_defined : Table → List ℕ → Bool
 is_defined table name = is_some (table.macro_of name)
@@ -47,7 +46,7 @@ pub record Evaluates (table : Table) (tokens : List PpToken) (value : Value) : T
   pub resolves : Resolves table tokens resolved
   pub expands : Expands table resolved expanded
   pub has_no_defined : HasNoDefined expanded
-  pub computes : Computes true Conditional expanded value
+  pub has_value : HasValue expanded value
 
 -- The group behind the line is read, where that is true, or skipped.
 pub data Chooses (table : Table) : List PpToken → Bool → Type 0 where

@@ -1,9 +1,12 @@
 //! What the operators compute (C90 6.3).
 
-ghost use Rattle.std.specs.Prelude.{◌≡◌, ◌==◌, if◌then◌else◌, Some, None};
+ghost use Rattle.std.specs.Prelude.{◌≡◌, ◌==◌, if◌then◌else◌, not, nat_lt, Some, None};
+ghost use Rattle.cpp_cond.specs.Expressions.{unary_of, binary_of, level_of};
+ghost use Rattle.cpp_cond.specs.Reading.{rank};
 ghost use Rattle.cpp_cond.specs.Values.{unary_value, binary_value, joint, is_less, quotient, remainder, shifted_right};
 
 use crate::value::Value;
+use c_lexer::Punctuator;
 
 /// An operator with one operand.
 #[derive(Clone, Copy, Debug, PartialEq, Eq)]
@@ -54,14 +57,25 @@ pub enum Level {
     Unary,
 }
 
+impl Level {
+    /// Whether a construct of this level holds an operand at least as tightly as that level.
+    pub fn reaches(self, level: Level) -> bool
+        ensures { result ≡ not (nat_lt (rank self) (rank level)) }
+    {
+        self >= level
+    }
+}
+
 impl Unary {
-    /// The operator with that spelling.
-    pub fn spelled(text: &[u8]) -> Option<Unary> {
-        match text {
-            b"+" => Some(Unary::Plus),
-            b"-" => Some(Unary::Minus),
-            b"~" => Some(Unary::Complement),
-            b"!" => Some(Unary::Not),
+    /// The operator that is spelled so.
+    pub fn of(punctuator: Punctuator) -> Option<Unary>
+        ensures { result ≡ unary_of punctuator }
+    {
+        match punctuator {
+            Punctuator::Plus => Some(Unary::Plus),
+            Punctuator::Minus => Some(Unary::Minus),
+            Punctuator::Tilde => Some(Unary::Complement),
+            Punctuator::Exclamation => Some(Unary::Not),
             _ => None,
         }
     }
@@ -80,31 +94,35 @@ impl Unary {
 }
 
 impl Binary {
-    /// The operator with that spelling.
-    pub fn spelled(text: &[u8]) -> Option<Binary> {
-        match text {
-            b"*" => Some(Binary::Multiply),
-            b"/" => Some(Binary::Divide),
-            b"%" => Some(Binary::Remainder),
-            b"+" => Some(Binary::Add),
-            b"-" => Some(Binary::Subtract),
-            b"<<" => Some(Binary::ShiftLeft),
-            b">>" => Some(Binary::ShiftRight),
-            b"<" => Some(Binary::Less),
-            b">" => Some(Binary::Greater),
-            b"<=" => Some(Binary::NotGreater),
-            b">=" => Some(Binary::NotLess),
-            b"==" => Some(Binary::Equal),
-            b"!=" => Some(Binary::Unequal),
-            b"&" => Some(Binary::And),
-            b"^" => Some(Binary::ExclusiveOr),
-            b"|" => Some(Binary::Or),
+    /// The operator that is spelled so.
+    pub fn of(punctuator: Punctuator) -> Option<Binary>
+        ensures { result ≡ binary_of punctuator }
+    {
+        match punctuator {
+            Punctuator::Star => Some(Binary::Multiply),
+            Punctuator::Slash => Some(Binary::Divide),
+            Punctuator::Percent => Some(Binary::Remainder),
+            Punctuator::Plus => Some(Binary::Add),
+            Punctuator::Minus => Some(Binary::Subtract),
+            Punctuator::ShiftLeft => Some(Binary::ShiftLeft),
+            Punctuator::ShiftRight => Some(Binary::ShiftRight),
+            Punctuator::Less => Some(Binary::Less),
+            Punctuator::Greater => Some(Binary::Greater),
+            Punctuator::LessEqual => Some(Binary::NotGreater),
+            Punctuator::GreaterEqual => Some(Binary::NotLess),
+            Punctuator::EqualEqual => Some(Binary::Equal),
+            Punctuator::NotEqual => Some(Binary::Unequal),
+            Punctuator::Ampersand => Some(Binary::And),
+            Punctuator::Caret => Some(Binary::ExclusiveOr),
+            Punctuator::Bar => Some(Binary::Or),
             _ => None,
         }
     }
 
     /// How tightly it holds its operands.
-    pub fn level(self) -> Level {
+    pub fn level(self) -> Level
+        ensures { result ≡ level_of self }
+    {
         match self {
             Binary::Multiply | Binary::Divide | Binary::Remainder => Level::Multiplicative,
             Binary::Add | Binary::Subtract => Level::Additive,
