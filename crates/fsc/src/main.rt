@@ -3,20 +3,10 @@
 #![tactic(auto)]
 
 mod arguments;
-mod ending;
-mod front;
-mod go;
-mod note;
-mod reading;
-mod run;
-mod running;
-mod tool;
 
-use ending::{Ending, status};
 use fsc_outside::{DiskFiles, InputSource, OutputSink};
-use note::report;
+use fsc_tool::{Ending, report, status, tool};
 use std::process::ExitCode;
-use tool::tool;
 
 /// Hands the words, the files and the streams of the process to the tool, and ends with its status.
 fn main(rt: HostRuntime) -> ExitCode {
@@ -35,10 +25,3 @@ fn main(rt: HostRuntime) -> ExitCode {
     drop(made);
     ExitCode::from(status(&ending))
 }
-
-#[cfg(test)]
-mod front_tests;
-#[cfg(test)]
-mod run_tests;
-#[cfg(test)]
-mod tests;
