@@ -1,4 +1,4 @@
-use crate::ending::status;
+use crate::status;
 use crate::tests::{Outside, SOUND, call};
 use fsc_base::NoMemory;
 

@@ -1,6 +1,6 @@
 //! Images that `run` runs. The words are those that llvm-mc makes of the lines in the comments.
 
-use crate::ending::status;
+use crate::status;
 use crate::tests::{Outside, SOUND, call};
 use elf_image::write_elf;
 use fsc_base::{Bytes, Image, NoMemory, Segment, Segments};
@@ -161,7 +161,7 @@ fn the_input_fails(rt: HostRuntime) -> Result<(), NoMemory> {
     };
     let outcome = call(rt.alloc(), b"run --stats t.c", file.as_slice(), &outside)?;
     assert_eq!(rt; outcome.out.bytes(), b"".as_slice());
-    assert_eq!(rt; outcome.notes.bytes(), b"fault input\n".as_slice());
+    assert_eq!(rt; outcome.notes.bytes(), b"methods 0\nfault input\n".as_slice());
     assert_eq!(rt; status(&outcome.ending), 127);
     Ok(())
 }

@@ -1,5 +1,5 @@
-use crate::ending::{Ending, status};
-use crate::tool::tool;
+use crate::{Ending, status};
+use crate::tool;
 use fsc_base::{Bytes, Image, Name, NoMemory, Segments};
 use fsc_outside::{MemFiles, MemSink, MemSource, Source, Took};
 use std::alloc::Global;
