@@ -170,6 +170,12 @@ action_counts : (s : State) → Counts s.count (action_of s)
 unfolding action_of
 action_counts s = fetched_counts s (fetched s.memory s.pc)
 
+pub goes_once : (s t : State) (bytes : List ℕ) → action_of s ≡ Goes bytes t → t.count ≡ s.count + 1
+goes_once s t bytes is = subst (Counts s.count) is (action_counts s)
+
+pub takes_once : (s : State) (n : ℕ) (f : List ℕ → State) → action_of s ≡ Takes n f → (bytes : List ℕ) → (f bytes).count ≡ s.count + 1
+takes_once s n f is = subst (Counts s.count) is (action_counts s)
+
 goes_counts : (s t : State) (before after : Streams) (action : Action) → Counts s.count action → GoesOn action t before after → t.count ≡ s.count + 1
 goes_counts s t before after (Goes bytes u) counts went = ap (λ (x : State). x.count) went.0 ∙ counts
 goes_counts s t before after (Takes k f) counts went = ap (λ (x : State). x.count) went.1 ∙ counts went.0

@@ -45,6 +45,11 @@ unfoldable pub image_run : ℕ → State → (input : List ℕ) → ImageRun
 image_run zero s input = record { machine = s; written = []; left = input; asked = 0; stop = stop.Steps }
 image_run (suc n) s input = beginning s (action_of s) input (image_run n)
 
+-- So many instructions lead from a state with an input to another with what is left of it, and none of them ends the run.
+-- They write these bytes, and ask the input for so many.
+pub record Leads (k : ℕ) (s : State) (input : List ℕ) (t : State) (left written : List ℕ) (asked : ℕ) : Type 0 where
+  pub run : image_run k s input ≡ record { machine = t; written = written; left = left; asked = asked; stop = stop.Steps }
+
 -- ---- how the program carries them out over a source and a sink
 
 -- what the source has left, and what the sink holds, where they tell
