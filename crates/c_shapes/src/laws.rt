@@ -1,0 +1,19 @@
+//! The laws of shapes.
+
+ghost use Rattle.c_shapes.specs.Laws.{DecidesOnce, DecidingIsNoAccess, EmptyCopyDecidesNothing, FiveAccesses, FailingAccess, AccessOfNothing, MisplacedRoot};
+
+/// The law of deciding. A decided shape stays, deciding is no access, and a copy of no bytes decides nothing.
+pub fn shapes_stay()
+    ensures once { DecidesOnce }
+    ensures no_access { DecidingIsNoAccess }
+    ensures empty_copy { EmptyCopyDecidesNothing }
+{}
+
+/// The accesses of one block of 10 bytes: three through its own type are near, two through others are away; one that fails
+/// decides all the same, and one without a block nothing.
+pub fn block_is_watched()
+    ensures five { FiveAccesses }
+    ensures failing { FailingAccess }
+    ensures nothing { AccessOfNothing }
+    ensures misplaced { MisplacedRoot }
+{}
