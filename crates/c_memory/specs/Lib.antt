@@ -4,4 +4,3 @@ pub mod Bytes
 pub mod Copying
 pub mod Sound
 pub mod Storage
-pub mod Words

@@ -14,4 +14,4 @@ mod tests;
 pub use decoding::{decode, round_trips};
 pub use encoding::encode;
 pub use inst::Inst;
-pub use reg::Reg;
+pub use reg::{Reg, registers};
