@@ -1,11 +1,11 @@
 -- Runs, one after another.
 use Rattle.std.proofs.Common.{◌≡◌, ◌≢◌, ℕ, zero, suc, ◌+◌, ◌≤◌, List, [], ◌++◌, take, drop, refl, sym, ap, subst, ◌∙◌, append_assoc, add_assoc, add-zero, zero-add, arith}
-use Rattle.std.proofs.lemmas.List.{append-nil}
+use Rattle.std.proofs.lemmas.List.{append-nil, length-take}
 use Rattle.rv_run.specs.declared.stop.Stop.{Stop}
 use Rattle.rv_run.specs.declared.stop.Stop.TheVariants as stop
 use Rattle.rv_run.specs.Machine.{State, Action, Goes, Takes, Exits, Stops, Traps, action_of}
 use Rattle.rv_run.specs.ImageRun.{ImageRun, writing_first, asking_first, beginning, image_run, Leads}
-use Rattle.rv_run.proofs.Counting.{goes_once, takes_once}
+use Rattle.rv_run.proofs.Counting.{moves_goes, moves_takes}
 
 -- ---- a longer run is a shorter one, and then the rest
 
@@ -168,9 +168,9 @@ run-written k n s input =
 counts_on : (k : ℕ) (s : State) (input : List ℕ) (action : Action) → action_of s ≡ action
     → ((t : State) (left : List ℕ) → (image_run k t left).stop ≡ stop.Steps → (image_run k t left).machine.count ≡ t.count + k)
     → (beginning s action input (image_run k)).stop ≡ stop.Steps → (beginning s action input (image_run k)).machine.count ≡ s.count + suc k
-counts_on k s input (Goes bytes t) is rest goes = omega (arith, rest t input goes, goes_once s t bytes is)
+counts_on k s input (Goes bytes t) is rest goes = omega (arith, rest t input goes, (moves_goes s t bytes is).count)
 counts_on k s input (Takes m f) is rest goes =
-    omega (arith, rest (f (take m input)) (drop m input) goes, takes_once s m f is (take m input))
+    omega (arith, rest (f (take m input)) (drop m input) goes, (moves_takes s m f is (take m input) (omega (arith, length-take m input))).count)
 counts_on k s input (Exits status) is rest goes = absurd (cc)
 counts_on k s input (Stops kind block offset width) is rest goes = absurd (cc)
 counts_on k s input (Traps kind) is rest goes = absurd (cc)

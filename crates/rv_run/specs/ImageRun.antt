@@ -1,5 +1,5 @@
 -- Runs: the machine's steps, one after another, what they take from the input and what they write.
-use Rattle.std.specs.Prelude.{◌≡◌, ℕ, zero, suc, ◌+◌, ◌≤◌, List, [], ◌++◌, length, take, drop, Option, Some, None, Result, Ok, Err}
+use Rattle.std.specs.Prelude.{◌≡◌, ℕ, zero, suc, ◌+◌, ◌<◌, ◌≤◌, ◌⊎◌, List, [], ◌++◌, length, take, drop, Option, Some, None, Result, Ok, Err}
 use Rattle.fsc_outside.specs.Streams.{Appends, AppendsFront}
 use Rattle.rv_isa.specs.declared.inst.Inst.{Inst}
 use Rattle.rv_run.specs.declared.stop.TrapKind.{TrapKind}
@@ -7,6 +7,7 @@ use Rattle.rv_run.specs.declared.stop.Step.{Step}
 use Rattle.rv_run.specs.declared.stop.Step.TheVariants as step
 use Rattle.rv_run.specs.declared.stop.Stop.{Stop}
 use Rattle.rv_run.specs.declared.stop.Stop.TheVariants as stop
+use Rattle.guest_mem.specs.Layout.{AreBytes}
 use Rattle.guest_mem.specs.Filling.{TakesUpTo, TakesFront}
 use Rattle.rv_run.specs.Machine.{State, Action, Goes, Takes, Exits, Stops, Traps, row, action_of, with_filled, counted}
 
@@ -60,7 +61,7 @@ pub record Streams : Type 0 where
 -- an instruction went on
 abbrev pub GoesOn : Action → (new : State) (before after : Streams) → Type 0
 GoesOn (Goes bytes t) new before after = (new ≡ t) × (after.left ≡ before.left) × Appends before.written after.written bytes
-GoesOn (Takes n t) new before after = (bytes : List ℕ) × (new ≡ t bytes) × TakesUpTo n before.left after.left bytes × (after.written ≡ before.written)
+GoesOn (Takes n t) new before after = (bytes : List ℕ) × (new ≡ t bytes) × TakesUpTo n before.left after.left bytes × (after.written ≡ before.written) × AreBytes bytes
 GoesOn (Exits status) new before after = ⊥
 GoesOn (Stops kind block offset width) new before after = ⊥
 GoesOn (Traps kind) new before after = ⊥
@@ -85,7 +86,7 @@ IsCutShort (Traps kind) before after = ⊥
 abbrev pub IsReadCut : Action → (old new : State) (before after : Streams) → Type 0
 IsReadCut (Takes n t) old new before after =
     (bytes : List ℕ) × (new ≡ counted (with_filled old bytes)) × TakesFront bytes before.left after.left × (length bytes ≤ n)
-    × (after.written ≡ before.written)
+    × (after.written ≡ before.written) × AreBytes bytes
 IsReadCut (Goes bytes t) old new before after = ⊥
 IsReadCut (Exits status) old new before after = ⊥
 IsReadCut (Stops kind block offset width) old new before after = ⊥
@@ -155,3 +156,53 @@ Runs run stop.Steps new before after = RunsWhole run stop.Steps new before after
 Runs run stop.ReadFault new before after = AppendsFront before.written after.written run.written
 Runs run stop.WriteFault new before after = AppendsFront before.written after.written run.written
 Runs run stop.NoMemory new before after = AppendsFront before.written after.written run.written
+
+-- Some of the n instructions ran whole, and the next one ended the run.
+pub record EndsWithin (n : ℕ) (old new : State) (given : List ℕ) (ending : Stop) (before after : Streams) : Type 0 where
+  pub steps : ℕ
+  pub fewer : steps < n
+  -- where those led
+  pub last : State
+  pub left : List ℕ
+  pub written : List ℕ
+  pub asked : ℕ
+  pub leads : Leads steps old given last left written asked
+  -- what source and sink had then
+  pub now : Streams
+  pub wrote : Appends before.written now.written written
+  pub keeps : LeavesInput before.left now.left left
+  -- and what the next one did
+  pub ends : EndsBy (action_of last) ending last new now after
+
+-- ---- runs over a source that tells nothing
+
+-- an action goes on to a state, with these bytes taken from the input
+abbrev pub PassesTo : Action → (taken : List ℕ) → State → Type 0
+PassesTo (Goes bytes t) taken u = (taken ≡ []) × (u ≡ t)
+PassesTo (Takes n t) taken u = (length taken ≤ n) × AreBytes taken × (u ≡ t taken)
+PassesTo (Exits status) taken u = ⊥
+PassesTo (Stops kind block offset width) taken u = ⊥
+PassesTo (Traps kind) taken u = ⊥
+
+-- what an action writes
+abbrev pub written_by : Action → List ℕ
+written_by (Goes bytes t) = bytes
+written_by (Takes n t) = []
+written_by (Exits status) = []
+written_by (Stops kind block offset width) = []
+written_by (Traps kind) = []
+
+-- A state is reached from another by actions, whatever they took from the input, and these bytes were written on the way.
+pub data IsReached (from : State) : State → (written : List ℕ) → Type 0 where
+  here : IsReached from from []
+  onward : (s t : State) (written taken : List ℕ) → IsReached from s written → PassesTo (action_of s) taken t → IsReached from t (written ++ written_by (action_of s))
+
+-- The run came to a state that is reached from the first, and there n instructions had run, or the next one ended it.
+pub record EndsWhereReached (n : ℕ) (old new : State) (ending : Stop) (before after : Streams) : Type 0 where
+  pub last : State
+  pub written : List ℕ
+  pub reached : IsReached old last written
+  pub now : Streams
+  pub wrote : Appends before.written now.written written
+  pub ends : ((ending ≡ stop.Steps) × (new ≡ last) × (after ≡ now) × (last.count ≡ old.count + n))
+      ⊎ (EndsBy (action_of last) ending last new now after × (last.count < old.count + n))
