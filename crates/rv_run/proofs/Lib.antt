@@ -1,4 +1,6 @@
 pub mod Composing
 pub mod Counting
+pub mod Keeping
 pub mod Moving
+pub mod RegisterLaws
 pub mod Running
