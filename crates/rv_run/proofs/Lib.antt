@@ -2,5 +2,6 @@ pub mod Composing
 pub mod Counting
 pub mod Keeping
 pub mod Moving
+pub mod Reaching
 pub mod RegisterLaws
 pub mod Running
