@@ -1,4 +1,7 @@
 pub mod Composing
 pub mod Counting
+pub mod Keeping
 pub mod Moving
+pub mod Reaching
+pub mod RegisterLaws
 pub mod Running
