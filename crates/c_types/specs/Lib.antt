@@ -1,4 +1,5 @@
 pub mod Building
+pub mod Built
 pub mod Kept
 pub mod Layouts
 pub mod Nodes
