@@ -81,7 +81,7 @@ counted_sound laid s sound = record {
 }
 
 -- each action keeps it, whatever bytes it takes
-passes_moved : (s t : State) (taken : List ℕ) (action : Action) → action_of s ≡ action → PassesTo action taken t → AreBytes taken × Moved taken s t
+pub passes_moved : (s t : State) (taken : List ℕ) (action : Action) → action_of s ≡ action → PassesTo action taken t → AreBytes taken × Moved taken s t
 passes_moved s t taken (Goes bytes u) is passes =
     let moved = moves_goes s u bytes is in
     (subst AreBytes (sym passes.0) (All-nil (λ byte. byte < 256)), rw (passes.0, passes.1) moved)

@@ -1,5 +1,6 @@
 pub mod Composing
 pub mod Counting
+pub mod Fetching
 pub mod Keeping
 pub mod Moving
 pub mod Reaching
