@@ -3,7 +3,7 @@
 ghost use Rattle.std.specs.Prelude.{◌≡◌, ◌++◌, ◌∷◌, [], ◌<◌, length, slice_index_or, OnOk, OnErr, IfOk, true};
 ghost use Rattle.std.specs.Option.{option_copied, option_map};
 ghost use Rattle.c_types.specs.Nodes.{node_at, presets, unqualified_in};
-ghost use Rattle.c_types.specs.Layouts.{layout_of, layout_in, members_in};
+ghost use Rattle.c_types.specs.Layouts.{layout_of, layout_in, members_in, members_of, scalar};
 ghost use Rattle.c_types.specs.Built.{IsBuilt, IsNext, is_unqualified};
 ghost use Rattle.c_types.specs.Kept.{layout_kept};
 
@@ -58,6 +58,32 @@ impl LaidNodes {
         }
     }
 
+    /// Void and the arithmetic types, under their numbers. Refused only for want of memory.
+    pub fn presets(alloc: Global) -> Result<LaidNodes, NoMemory>
+        ensures { IfOk result (λ t. t ≡ presets) }
+    {
+        let mut nodes = LaidNodes::new(alloc);
+        nodes.push(TypeNode::Void, None)?;
+        nodes.push_basic(Basic::Char)?;
+        nodes.push_basic(Basic::SignedChar)?;
+        nodes.push_basic(Basic::UnsignedChar)?;
+        nodes.push_basic(Basic::Short)?;
+        nodes.push_basic(Basic::UnsignedShort)?;
+        nodes.push_basic(Basic::Int)?;
+        nodes.push_basic(Basic::Unsigned)?;
+        nodes.push_basic(Basic::Long)?;
+        nodes.push_basic(Basic::UnsignedLong)?;
+        Ok(nodes)
+    }
+
+    /// One more arithmetic type.
+    fn push_basic(&mut self, basic: Basic) -> Result<(), NoMemory>
+        ensures pushed { OnOk result (self.new ≡ self.old ++ TypeNode.Basic basic ∷ []) }
+    {
+        let layout = Layout::scalar(self.alloc, basic.size())?;
+        self.push(TypeNode::Basic(basic), Some(layout))
+    }
+
     /// How many nodes there are.
     pub fn len(&self) -> usize
         ensures { result ≡ length self.now }
@@ -106,6 +132,23 @@ impl LaidNodes {
         ensures { option_copied result ≡ layout_of self.now id }
     {
         self.kept_layout(self.unqualified(id))
+    }
+
+    /// The members of a struct or union, perhaps qualified; every other type has none.
+    pub fn members(&self, id: TypeId) -> &[Member]
+        ensures { result.now ≡ members_of self.now id }
+    {
+        self.kept_members(self.unqualified(id))
+    }
+
+    /// What is kept as the members of a type.
+    fn kept_members(&self, id: TypeId) -> &[Member]
+        ensures { result.now ≡ members_in (layout_of self.now) (node_at self.now id) }
+    {
+        match self.kept.get(id as usize) {
+            Some(kept) => kept.members.as_slice(),
+            None => &[],
+        }
     }
 
     /// One more node behind the others, with its layout. Refused only for want of memory; all stays then as it was.

@@ -1,6 +1,7 @@
 //! C's types as tables of nodes, and how memory sees them: sizes, alignments, members and kinds of words (C90 6.1.2.5).
 #![tactic(auto)]
 
+mod form;
 mod laid;
 mod laws;
 mod layout;
