@@ -1,62 +1,14 @@
 ghost use Rattle.std.specs.Prelude.{[]};
 ghost use Rattle.std.specs.Io.{WritesAtMost};
 
-use super::*;
-use fsc_base::{Bytes, Name, NoMemory};
+use fsc_base::{Name, NoMemory};
+use fsc_outside::{
+    DiskFiles, Files, Got, InputSource, OutputSink, Put, Sink, Source, Took, Wrote, write_whole,
+};
 use std::alloc::Global;
 use std::io::{Error, ErrorKind, Read, Write};
 use std::test::Fail;
 use std::{env, fs, io};
-
-#[test]
-fn sources_in_memory(rt: HostRuntime) -> Result<(), Fail> {
-    let mut source = MemSource::new(rt.alloc(), b"abc", &[])?;
-    let mut buffer = [b'-'; 5];
-    assert_eq!(rt; source.read(&mut buffer), Took::Moved(3));
-    assert_eq!(rt; buffer.as_slice(), b"abc--".as_slice());
-    assert_eq!(rt; source.read(&mut buffer), Took::End);
-    assert_eq!(rt; source.faults(), 0);
-    Ok(())
-}
-
-#[test]
-fn slow_sources_that_fail(rt: HostRuntime) -> Result<(), Fail> {
-    let mut source = MemSource::slow(rt.alloc(), b"abc", &[2, 5], 1)?;
-    let mut buffer = [b'-'; 2];
-    for (answer, byte) in [
-        (Took::Moved(1), b'a'),
-        (Took::Failed, b'a'),
-        (Took::Moved(1), b'b'),
-        (Took::Moved(1), b'c'),
-        (Took::Failed, b'c'),
-        (Took::End, b'c'),
-    ] {
-        assert_eq!(rt; source.read(&mut buffer), answer);
-        assert_eq!(rt; buffer[0], byte);
-    }
-    assert_eq!(rt; source.faults(), 2);
-    Ok(())
-}
-
-#[test]
-fn sinks_in_memory(rt: HostRuntime) -> Result<(), Fail> {
-    let alloc = rt.alloc();
-    for (mut sink, wrote, bytes, faults) in [
-        (MemSink::new(alloc, &[])?, Wrote::Whole, b"abcd", 0),
-        (MemSink::slow(alloc, &[], 1)?, Wrote::Whole, b"abcd", 0),
-        (MemSink::slow(alloc, &[2], 3)?, Wrote::Failed, b"abc-", 1),
-        (MemSink::new(alloc, &[1])?, Wrote::Failed, b"----", 1),
-    ] {
-        assert_eq!(rt; write_whole(&mut sink, b"abcd"), wrote);
-        let mut written = [b'-'; 4];
-        let length = sink.bytes().len();
-        assert!(rt; length <= 4);
-        written[..length].copy_from_slice(sink.bytes());
-        assert_eq!(rt; written, *bytes);
-        assert_eq!(rt; sink.faults(), faults);
-    }
-    Ok(())
-}
 
 /// The bytes of a file that was found, or a word for what came of the read.
 fn told(got: &Got) -> &[u8] {
@@ -70,27 +22,6 @@ fn told(got: &Got) -> &[u8] {
 
 fn name(alloc: Global, text: &[u8]) -> Result<Name, NoMemory> {
     Name::from_slice(alloc, text)
-}
-
-#[test]
-fn files_in_memory(rt: HostRuntime) -> Result<(), Fail> {
-    let alloc = rt.alloc();
-    let (a, b) = (name(alloc, b"a.c")?, name(alloc, b"b.h")?);
-    let pairs = [
-        (name(alloc, b"a.c")?, Bytes::from_slice(alloc, b"first")?),
-        (name(alloc, b"a.c")?, Bytes::from_slice(alloc, b"last")?),
-    ];
-    let mut files = MemFiles::new(alloc, &pairs, &[3, 5])?;
-    assert_eq!(rt; told(&files.read(&a)), b"last".as_slice());
-    assert_eq!(rt; told(&files.read(&b)), b"(absent)".as_slice());
-    assert_eq!(rt; told(&files.read(&a)), b"(failed)".as_slice());
-    assert_eq!(rt; files.write(&b, b"new"), Put::Done);
-    assert_eq!(rt; files.write(&a, b"new"), Put::Failed);
-    assert_eq!(rt; told(&files.read(&b)), b"new".as_slice());
-    assert_eq!(rt; files.get(&a), Some(b"last".as_slice()));
-    assert_eq!(rt; files.faults(), 2);
-    assert_eq!(rt; files.absences(), 1);
-    Ok(())
 }
 
 #[test]
