@@ -12,4 +12,4 @@ mod reg;
 pub use decoding::{decode, round_trips};
 pub use encoding::encode;
 pub use inst::Inst;
-pub use reg::Reg;
+pub use reg::{Reg, registers};
