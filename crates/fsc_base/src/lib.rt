@@ -16,6 +16,3 @@ pub use memory::NoMemory;
 pub use place::{Broken, Place, Refused};
 pub use rule::Rule;
 pub use word::{Width, Word, WordKind};
-
-#[cfg(test)]
-mod tests;

@@ -8,8 +8,6 @@ mod fields;
 mod inst;
 mod opcode;
 mod reg;
-#[cfg(test)]
-mod tests;
 
 pub use decoding::{decode, round_trips};
 pub use encoding::encode;
