@@ -1,0 +1,7 @@
+pub mod Building
+pub mod Built
+pub mod Kept
+pub mod Layouts
+pub mod Nodes
+pub mod Periods
+pub mod Worked
