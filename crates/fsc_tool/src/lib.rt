@@ -11,7 +11,7 @@ mod run;
 mod running;
 mod tool;
 
-pub use ending::{Ending, Form, Storage, StopKind, status};
+pub use ending::{Ending, Form, StopKind, Storage, status};
 pub use note::report;
 pub use tool::tool;
 
