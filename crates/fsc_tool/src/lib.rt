@@ -14,10 +14,3 @@ mod tool;
 pub use ending::{Ending, Form, StopKind, Storage, status};
 pub use note::report;
 pub use tool::tool;
-
-#[cfg(test)]
-mod front_tests;
-#[cfg(test)]
-mod run_tests;
-#[cfg(test)]
-mod tests;
