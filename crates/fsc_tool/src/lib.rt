@@ -6,10 +6,3 @@ mod top_call;
 
 pub use fsc_ending::{Ending, Form, StopKind, Storage, report, status};
 pub use top_call::tool;
-
-#[cfg(test)]
-mod front_tests;
-#[cfg(test)]
-mod run_tests;
-#[cfg(test)]
-mod tests;
