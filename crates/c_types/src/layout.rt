@@ -24,7 +24,11 @@ impl Layout {
     pub(crate) fn scalar(alloc: Global, size: u32) -> Result<Layout, NoMemory>
         ensures { IfOk result (λ layout. layout ≡ scalar size) }
     {
-        let kind = if size == 4 { WordKind::Fat } else { WordKind::Narrow };
+        let kind = if size == 4 {
+            WordKind::Fat
+        } else {
+            WordKind::Narrow
+        };
         Ok(Layout {
             size,
             align: size,

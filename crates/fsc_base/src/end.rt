@@ -10,22 +10,11 @@ pub enum End {
     Exit(u8),
     /// An access whose bytes are not all within a live object: the block that its word is based on, the word's offset
     /// there, and how many bytes it touches.
-    Access {
-        block: u32,
-        offset: u32,
-        width: u32,
-    },
+    Access { block: u32, offset: u32, width: u32 },
     /// A write that is within an object which refuses writes.
-    ReadOnly {
-        block: u32,
-        offset: u32,
-        width: u32,
-    },
+    ReadOnly { block: u32, offset: u32, width: u32 },
     /// A call of a word that is not the address of a function.
-    Call {
-        block: u32,
-        offset: u32,
-    },
+    Call { block: u32, offset: u32 },
     /// A division by zero.
     Divide,
     /// The program called `abort`.

@@ -1,45 +1,15 @@
--- Where instructions lie in memory.
-use Rattle.std.proofs.Common.{◌≡◌, ℕ, zero, suc, ◌+◌, ◌*◌, ◌<◌, ◌≤◌, List, [], ◌∷◌, ◌++◌, length, take, drop, get_or, refl, sym, ap, ◌∙◌, append_assoc, add-one, arith}
+-- The code, piece by piece.
+use Rattle.std.proofs.Common.{◌≡◌, ℕ, ◌+◌, ◌<◌, ◌≤◌, List, [], ◌∷◌, ◌++◌, length, take, get_or, sym, ap, ◌∙◌, append_assoc}
 use Rattle.std.specs.List.{flat_map}
-use Rattle.std.proofs.lemmas.List.{length-append}
 use Rattle.std.proofs.lemmas.List.{flat_map_more, take_more, take_all}
-use Rattle.std.proofs.lemmas.Grind.{flat_map-append}
 use Rattle.rv_isa.specs.declared.inst.Inst.{Inst}
-use Rattle.plain_image.specs.Code.{word_of, spelled, prologue, write_byte, epilogue, code_of}
-
--- four bytes each
-pub length-spelled : (code : List Inst) → length (spelled code) ≡ 4 * length code
-unfolding word_of
-length-spelled [] = refl
-length-spelled (inst ∷ code) =
-    let more = length-spelled code in omega (arith, length-append (word_of inst) (spelled code))
-
-four_more : (k : ℕ) → 4 * suc k ≡ suc (suc (suc (suc (4 * k))))
-four_more k = omega arith
-
--- the k-th instruction is the k-th word
-pub word_at : (code rest : List Inst) (k : ℕ) (inst : Inst) → drop k code ≡ inst ∷ rest → take 4 (drop (4 * k) (spelled code)) ≡ word_of inst
-unfolding word_of
-word_at [] rest zero inst h = absurd cc
-word_at [] rest (suc k) inst h = absurd cc
-word_at (first ∷ code) rest zero inst h = let same : first ≡ inst = cc in ap word_of same
-word_at (first ∷ code) rest (suc k) inst h = rw (four_more k) (word_at code rest k inst h)
-
-pub within : (code rest : List Inst) (k : ℕ) (inst : Inst) → drop k code ≡ inst ∷ rest → k < length code
-within [] rest zero inst h = absurd cc
-within [] rest (suc k) inst h = absurd cc
-within (first ∷ code) rest zero inst h = omega arith
-within (first ∷ code) rest (suc k) inst h = omega (arith, within code rest k inst h)
-
-pub drop_one : (code rest : List Inst) (k : ℕ) (inst : Inst) → drop k code ≡ inst ∷ rest → drop (k + 1) code ≡ rest
-drop_one [] rest zero inst h = absurd cc
-drop_one [] rest (suc k) inst h = absurd cc
-drop_one (first ∷ code) rest zero inst h = cc
-drop_one (first ∷ code) rest (suc k) inst h = rw add-one (rw add-one at (drop_one code rest k inst h))
+use Rattle.rv_isa.specs.Spelling.{spelled}
+use Rattle.rv_isa.proofs.Spelled.{spelled-append}
+use Rattle.plain_image.specs.Code.{prologue, write_byte, epilogue, code_of}
 
 -- the code so far, and what is added
 pub spelled_more : (code more : List Inst) (bytes : List ℕ) → bytes ≡ spelled code ++ spelled more → bytes ≡ spelled (code ++ more)
-spelled_more code more bytes h = h ∙ sym (flat_map-append word_of code more)
+spelled_more code more bytes h = h ∙ sym (spelled-append code more)
 
 pub code_is : (bytes : List ℕ) (status : ℕ) → (prologue ++ flat_map write_byte bytes) ++ epilogue status ≡ code_of bytes status
 unfolding code_of

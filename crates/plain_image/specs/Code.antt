@@ -1,11 +1,10 @@
 -- The code of a program that writes some bytes and exits.
 use Rattle.std.specs.Prelude.{ℕ, List, [], ◌∷◌, ◌++◌, length, pos}
 use Rattle.std.specs.List.{flat_map}
-use Rattle.std.specs.Int.{w32, to_le_bytes}
 use Rattle.fsc_base.specs.declared.image.Image.{Image}
 use Rattle.rv_isa.specs.declared.inst.Inst.{Inst}
 use Rattle.rv_isa.specs.declared.inst.Inst.TheVariants.{Lui, Addi, Sb, Ecall}
-use Rattle.rv_isa.specs.Encoding.{encoding}
+use Rattle.rv_isa.specs.Spelling.{spelled}
 
 -- rd becomes a number from 0 to 2047
 abbrev pub load : (rd number : ℕ) → Inst
@@ -25,13 +24,6 @@ epilogue status = load 10 status ∷ load 17 93 ∷ Ecall ∷ []
 
 unfoldable pub code_of : (bytes : List ℕ) (status : ℕ) → List Inst
 code_of bytes status = prologue ++ (flat_map write_byte bytes ++ epilogue status)
-
--- instructions in memory, lowest byte first
-unfoldable pub word_of : Inst → List ℕ
-word_of inst = to_le_bytes w32 (encoding inst)
-
-abbrev pub spelled : List Inst → List ℕ
-spelled code = flat_map word_of code
 
 -- code that may be executed alone, and the buffer
 unfoldable pub image_of : (bytes : List ℕ) (status : ℕ) → Image

@@ -4,9 +4,10 @@
 ghost use Rattle.std.specs.Prelude.{◌≡◌, ℕ, ◌+◌, ◌*◌, ◌<◌, ◌≤◌, ◌++◌, ◌∷◌, List, [], length, IfOk, OnOk, pos};
 ghost use Rattle.fsc_base.specs.Image.{IsSound};
 ghost use Rattle.rv_isa.specs.Encoding.{IsValid};
+ghost use Rattle.rv_isa.specs.Spelling.{word_of, spelled};
 ghost use Rattle.rv_run.specs.Machine.{start_of};
 ghost use Rattle.rv_run.specs.ImageRun.{image_run};
-ghost use Rattle.plain_image.specs.Code.{load, prologue, write_byte, epilogue, code_of, word_of, spelled, image_of};
+ghost use Rattle.plain_image.specs.Code.{load, prologue, write_byte, epilogue, code_of, image_of};
 ghost use Rattle.plain_image.specs.Writing.{Writes};
 
 use fsc_base::{Bytes, Image, NoMemory, Segment, Segments};
@@ -20,7 +21,7 @@ const CODE: u32 = 0x10000;
 const BUFFER: u32 = 0x20000;
 
 /// Adds an instruction to code.
-#[tactic(auto, unfolding(crate::specs::Code::word_of))]
+#[tactic(auto, unfolding(rv_isa::specs::Spelling::word_of))]
 fn emit(code: &mut Vec<u8>, inst: Inst) -> Result<(), NoMemory>
     requires { IsValid inst }
     ensures { OnOk result (code.new.items ≡ code.old.items ++ word_of inst) }
@@ -118,6 +119,3 @@ pub fn image(alloc: Global, bytes: &[u8], status: u8) -> Result<Image, NoMemory>
     let image = assembled(alloc, bytes, status)?;
     Ok(image)
 }
-
-#[cfg(test)]
-mod tests;

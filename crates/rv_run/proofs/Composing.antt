@@ -1,6 +1,6 @@
 -- Runs, one after another.
 use Rattle.std.proofs.Common.{◌≡◌, ◌≢◌, ℕ, zero, suc, ◌+◌, ◌≤◌, List, [], ◌++◌, take, drop, refl, sym, ap, subst, ◌∙◌, append_assoc, add_assoc, add-zero, zero-add, arith}
-use Rattle.std.proofs.lemmas.List.{append-nil, length-take}
+use Rattle.std.proofs.lemmas.List.{append-nil, drop-drop, length-take}
 use Rattle.rv_run.specs.declared.stop.Stop.{Stop}
 use Rattle.rv_run.specs.declared.stop.Stop.TheVariants as stop
 use Rattle.rv_run.specs.Machine.{State, Action, Goes, Takes, Exits, Stops, Traps, action_of}
@@ -162,6 +162,22 @@ run-written k n s input =
     let run = image_run k s input in
     let there = still_there run run.stop n in
     (there.0, ap (λ (r : ImageRun). r.written) (run-sum k n s input) ∙ there.1)
+
+-- What is left is what the input has behind the bytes that were asked for.
+left_behind : (n : ℕ) (s : State) (input : List ℕ) (action : Action) → ((t : State) (rest : List ℕ) → (image_run n t rest).left ≡ drop (image_run n t rest).asked rest)
+    → (beginning s action input (image_run n)).left ≡ drop (beginning s action input (image_run n)).asked input
+left_behind n s input (Goes bytes t) later = later t input
+left_behind n s input (Takes k f) later =
+    let run = image_run n (f (take k input)) (drop k input) in
+    later (f (take k input)) (drop k input) ∙ drop-drop run.asked k input
+left_behind n s input (Exits status) later = refl
+left_behind n s input (Stops kind block offset width) later = refl
+left_behind n s input (Traps kind) later = refl
+
+pub run-left : (n : ℕ) (s : State) (input : List ℕ) → (image_run n s input).left ≡ drop (image_run n s input).asked input
+unfolding image_run
+run-left zero s input = refl
+run-left (suc n) s input = left_behind n s input (action_of s) (run-left n)
 
 -- ---- each instruction counts once
 

@@ -38,8 +38,8 @@ four_more : (at k : ℕ) → at + 4 + 4 * k ≡ at + 4 * suc k
 four_more at k = omega arith
 
 pub code-drop : (memory : List Region) (at : ℕ) (code : List Inst) (k : ℕ) → CodeAt memory at code → CodeAt memory (at + 4 * k) (drop k code)
-code-drop memory at [] k h = ?
-code-drop memory at (inst ∷ code) zero h = ?
+code-drop memory at code zero h = let same : at ≡ at + 4 * 0 = omega arith in subst (λ (a : ℕ). CodeAt memory a code) same h
+code-drop memory at [] (suc k) h = tt
 code-drop memory at (inst ∷ code) (suc k) h = subst (λ (a : ℕ). CodeAt memory a (drop k code)) (four_more at k) (code-drop memory (at + 4) code k h.1)
 
 -- the instruction that stands at the k-th

@@ -11,8 +11,3 @@ mod table;
 
 pub use machine::Machine;
 pub use stop::{Step, Stop, TrapKind};
-
-#[cfg(test)]
-mod tests;
-#[cfg(test)]
-mod words;
