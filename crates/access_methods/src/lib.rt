@@ -14,6 +14,3 @@ pub use access::{read, write};
 pub use copying::copy;
 pub use laws::{numbers_stand_for_layouts, places_of_one_kind};
 pub use layout::{Layout, Mixed, Narrow, Pair, Plane};
-
-#[cfg(test)]
-mod tests;

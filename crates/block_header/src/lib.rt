@@ -63,6 +63,3 @@ pub fn headers_stand_apart()
     ensures words { KeepsWords }
     ensures length { KeepsLength }
 {}
-
-#[cfg(test)]
-mod tests;

@@ -12,6 +12,3 @@ mod tally;
 pub use c_memory::{BlockKind, CopyNo, Outside, WriteNo};
 pub use heap::Heap;
 pub use make_no::MakeNo;
-
-#[cfg(test)]
-mod tests;

@@ -7,6 +7,3 @@ mod size;
 mod store;
 
 pub use store::{CellStore, Full};
-
-#[cfg(test)]
-mod tests;

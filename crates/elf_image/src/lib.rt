@@ -12,6 +12,3 @@ mod writing;
 pub use fault::{ElfFault, ReadElfNo};
 pub use reading::read_elf;
 pub use writing::write_elf;
-
-#[cfg(test)]
-mod tests;

@@ -25,6 +25,3 @@ pub use memory_source::MemSource;
 pub use output_sink::OutputSink;
 pub use sink::{Gave, Sink, Wrote, write_whole};
 pub use source::{Source, Took};
-
-#[cfg(test)]
-mod tests;

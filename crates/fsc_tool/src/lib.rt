@@ -11,13 +11,6 @@ mod run;
 mod running;
 mod tool;
 
-pub use ending::{Ending, Form, Storage, StopKind, status};
+pub use ending::{Ending, Form, StopKind, Storage, status};
 pub use note::report;
 pub use tool::tool;
-
-#[cfg(test)]
-mod front_tests;
-#[cfg(test)]
-mod run_tests;
-#[cfg(test)]
-mod tests;

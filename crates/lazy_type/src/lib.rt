@@ -28,6 +28,3 @@ pub fn decide(store: &mut CellStore, block: u32, desc: u32)
         store.set_desc(block, desc);
     }
 }
-
-#[cfg(test)]
-mod tests;

@@ -164,9 +164,17 @@ code_spells : (bytes : List ℕ) (status : ℕ) → AreBytes bytes → status < 
 unfolding code_of
 code_spells bytes status h fits = (
   load_spells 10 1 (lit< tt) (lit< tt),
-  ((search rules, lit< tt), (load_spells 12 1 (lit< tt) (lit< tt), (load_spells 17 64 (lit< tt) (lit< tt),
+  (
+    (search rules, lit< tt),
+    (
+      load_spells 12 1 (lit< tt) (lit< tt),
+      (
+        load_spells 17 64 (lit< tt) (lit< tt),
         spelled_all (flat_map write_byte bytes) (epilogue status) (bytes_spell bytes h)
-        (load_spells 10 status (lit< tt) (omega arith), (load_spells 17 93 (lit< tt) (lit< tt), ((tt, tt), tt)))))),
+            (load_spells 10 status (lit< tt) (omega arith), (load_spells 17 93 (lit< tt) (lit< tt), ((tt, tt), tt))),
+      ),
+    ),
+  ),
 )
 
 length-write_bytes : (bytes : List ℕ) → length (flat_map write_byte bytes) ≡ 3 * length bytes

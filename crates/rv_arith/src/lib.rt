@@ -5,9 +5,6 @@
 ghost use Rattle.std.specs.Prelude.{◌≡◌};
 ghost use Rattle.rv_arith.specs.Arithmetic.{add, sub, sll, srl, sra, slt, sltu, mul, mulh, mulhsu, mulhu, div, divu, rem, remu};
 
-#[cfg(test)]
-mod tests;
-
 /// The sum, modulo 2^32.
 pub fn add(x: u32, y: u32) -> u32
     ensures { result ≡ add x y }

@@ -8,10 +8,8 @@ mod fields;
 mod inst;
 mod opcode;
 mod reg;
-#[cfg(test)]
-mod tests;
 
 pub use decoding::{decode, round_trips};
 pub use encoding::encode;
 pub use inst::Inst;
-pub use reg::Reg;
+pub use reg::{Reg, registers};

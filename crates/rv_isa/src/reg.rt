@@ -4,6 +4,8 @@ ghost use Rattle.std.specs.Prelude.{◌≡◌, ◌<◌};
 
 use std::marker::Model;
 
+pub mod registers;
+
 /// One of the registers x0 to x31. Contracts see it as its number.
 #[derive(Clone, Copy, Debug, PartialEq, Eq)]
 pub struct Reg {

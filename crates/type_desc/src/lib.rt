@@ -17,6 +17,3 @@ pub use laws::{
 };
 pub use shape::{Shape, place};
 pub use shapes::Shapes;
-
-#[cfg(test)]
-mod tests;

@@ -1,0 +1,5 @@
+pub mod Bits
+pub mod Operators
+pub mod Primitives
+pub mod Runs
+pub mod Words
