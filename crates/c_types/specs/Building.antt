@@ -1,0 +1,83 @@
+-- Tables that are built node by node: each pointer, array, function and qualified type stands in them once, so that the same type
+-- is the same number.
+use Rattle.std.specs.Prelude.{ℕ, ◌+◌, ◌==◌, nat_lt, ◌&&◌, Bool, true, false, if◌then◌else◌, List, [], ◌∷◌, ◌++◌, length, nat_eq}
+use Rattle.std.specs.List.{position_or_len}
+use Rattle.std.specs.Cmp.Lexicographic.{pointwise}
+use Rattle.c_types.specs.declared.node.TypeNode.{TypeNode}
+use Rattle.c_types.specs.declared.node.TypeNode.TheVariants.{Void, Basic as Arithmetic, Pointer, Array, Function, Struct, Union, Enum, Qualified}
+
+abbrev pub same_test : (one other : Bool) → Bool
+same_test true other = other
+same_test false true = false
+same_test false false = true
+
+-- ---- which node is that of a type
+
+abbrev pub is_pointer : (to : ℕ) → TypeNode → Bool
+is_pointer t (Pointer to) = to == t
+is_pointer t Void = false
+is_pointer t (Arithmetic b) = false
+is_pointer t (Array of count) = false
+is_pointer t (Function returns is_known parameters is_variadic) = false
+is_pointer t (Struct r) = false
+is_pointer t (Union r) = false
+is_pointer t (Enum tag) = false
+is_pointer t (Qualified of bits) = false
+
+abbrev pub is_array : (of count : ℕ) → TypeNode → Bool
+is_array t n (Array of count) = (of == t) && (count == n)
+is_array t n Void = false
+is_array t n (Arithmetic b) = false
+is_array t n (Pointer to) = false
+is_array t n (Function returns is_known parameters is_variadic) = false
+is_array t n (Struct r) = false
+is_array t n (Union r) = false
+is_array t n (Enum tag) = false
+is_array t n (Qualified of bits) = false
+
+abbrev pub is_qualified : (of bits : ℕ) → TypeNode → Bool
+is_qualified t b (Qualified of bits) = (of == t) && (bits == b)
+is_qualified t b Void = false
+is_qualified t b (Arithmetic c) = false
+is_qualified t b (Pointer to) = false
+is_qualified t b (Array of count) = false
+is_qualified t b (Function returns is_known parameters is_variadic) = false
+is_qualified t b (Struct r) = false
+is_qualified t b (Union r) = false
+is_qualified t b (Enum tag) = false
+
+abbrev pub is_function : (returns : ℕ) → (is_known : Bool) → (parameters : List ℕ) → (is_variadic : Bool) → TypeNode → Bool
+is_function t k ps v (Function returns is_known parameters is_variadic) =
+    (returns == t) && same_test is_known k && pointwise nat_eq parameters ps && same_test is_variadic v
+is_function t k ps v Void = false
+is_function t k ps v (Arithmetic b) = false
+is_function t k ps v (Pointer to) = false
+is_function t k ps v (Array of count) = false
+is_function t k ps v (Struct r) = false
+is_function t k ps v (Union r) = false
+is_function t k ps v (Enum tag) = false
+is_function t k ps v (Qualified of bits) = false
+
+-- the same type is the same node, but each struct, union and enum is a type of its own
+abbrev pub same_type : (one other : TypeNode) → Bool
+same_type (Pointer to) other = is_pointer to other
+same_type (Array of count) other = is_array of count other
+same_type (Function returns is_known parameters is_variadic) other = is_function returns is_known parameters is_variadic other
+same_type (Qualified of bits) other = is_qualified of bits other
+same_type Void other = false
+same_type (Arithmetic b) other = false
+same_type (Struct r) other = false
+same_type (Union r) other = false
+same_type (Enum tag) other = false
+
+-- where a type stands, or the length of the table, where it would
+abbrev pub index_of : List TypeNode → TypeNode → ℕ
+index_of nodes node = position_or_len (same_type node) nodes
+
+-- the table with it behind it, where it does not stand there
+abbrev pub with_node : List TypeNode → TypeNode → List TypeNode
+with_node nodes node = if nat_lt (index_of nodes node) (length nodes) then nodes else nodes ++ (node ∷ [])
+
+-- a number outside the table is that of void
+abbrev pub within : List TypeNode → (id : ℕ) → ℕ
+within nodes id = if nat_lt id (length nodes) then id else 0
