@@ -1,6 +1,9 @@
 pub mod Access
+pub mod Addresses
 pub mod Blocks
 pub mod Bytes
 pub mod Copying
+pub mod Ends
+pub mod Making
 pub mod Sound
 pub mod Storage
