@@ -1,13 +1,15 @@
 -- What a fill has taken after each turn, and what it leaves in memory.
-use Rattle.std.proofs.Common.{◌≡◌, ℕ, ◌+◌, ◌-◌, ◌≤◌, IsTrue, List, [], ◌++◌, length, take, drop, set, get_or, position, Option, Some, None, is_some, true, refl, sym, ap, subst, ◌∙◌, append_assoc, length-append, length-drop, take-append-drop, inl, inr, arith}
+use Rattle.std.proofs.Common.{◌≡◌, ℕ, ◌+◌, ◌-◌, ◌<◌, ◌≤◌, IsTrue, List, [], ◌++◌, length, take, drop, set, get_or, position, Option, Some, None, is_some, true, refl, sym, ap, subst, ◌∙◌, append_assoc, length-append, length-drop, take-append-drop, inl, inr, arith}
 use borrow.Rule.Slice.PartMut.{put_mid}
 use Rattle.std.proofs.lemmas.Bool.{cases_lt}
 use Rattle.std.proofs.lemmas.List.{append-nil, drop-drop, length-take-le, nil_from_length, set-get_or, take_all, drop_all}
+use Rattle.std.proofs.lemmas.List.Elements.{All-nil, All-take, All-from_get_or}
 use Rattle.std.proofs.lemmas.Slice.{take-put_mid, drop-put_mid}
 use Rattle.std.proofs.Math.Seq.{drop-append_seam, take-append_seam}
 use Rattle.fsc_outside.specs.Streams.{Takes, AtEnd}
 use Rattle.guest_mem.specs.declared.right.Right.TheVariants.{Write}
 use Rattle.guest_mem.specs.Regions.{Region}
+use Rattle.guest_mem.specs.Layout.{AreBytes}
 use Rattle.guest_mem.specs.Guest.{part, with_part, with_bytes, covers}
 use Rattle.guest_mem.specs.Filling.{TakesUpTo, TakesFront, TakesBy, over_front, front_over, with_front, FillsSlice, FillsRegion, Fills}
 use Rattle.guest_mem.specs.declared.streams.Filled.{Filled}
@@ -81,6 +83,12 @@ front_more first now new target buffer copied taken n size h front then =
     take-put_mid taken size target copied (taken + n) (omega arith) (omega arith) ∙ ap (λ (l : List ℕ). take taken target ++ l) h.front in
     subst (λ (bytes : List ℕ). Takes first new bytes) (sym joined) (takes_then first now new (take taken target) (take n buffer) front then)
 
+-- a front of bytes is bytes
+pub taken_bytes : (target : List ℕ) (n : ℕ) → ((i : ℕ) → get_or target i 0 < 256) → AreBytes (take n target)
+taken_bytes target n h =
+    let byte : ℕ → Type 0 = λ b. b < 256 in
+    All-take byte n target (All-from_get_or byte target 0 (λ i below. h i))
+
 -- the target begins with what was taken
 pub over_front_of : (target old : List ℕ) (taken : ℕ) → taken ≤ length target → drop taken target ≡ drop taken old → target ≡ over_front (take taken target) old
 over_front_of target old taken within behind = rw (length-take-le taken target within, ← behind, take-append-drop) refl
@@ -114,6 +122,7 @@ fills_region region at n size all target answer before after within same long fi
       omega (arith, here.1),
       ap (λ (l : List ℕ). record region { bytes = l }) put ∙ written_part region at n target full ∙ ap (λ (l : List ℕ). with_part region at l) here.2,
       subst (λ k. TakesBy answer k before after here.0) whole here.3,
+      here.4,
     )
 
 -- the first region that has the n bytes and may be written begins with the bytes there now
@@ -129,7 +138,7 @@ with_front-place regions at n place bytes d is few =
 pub fills_place : (regions : List Region) (at n place : ℕ) (d new : Region) (answer : Filled) (before after : Option (List ℕ)) → position (serves Write at n) regions ≡ Some place
     → FillsRegion answer (get_or regions place d) new at n before after → Fills answer regions (set regions place new) at n before after
 fills_place regions at n place d new answer before after is fills =
-    (fills.0, fills.1, with_front-place regions at n place fills.0 d is fills.1 ∙ ap (λ (r : Region). Some (set regions place r)) (sym fills.2), fills.3)
+    (fills.0, fills.1, with_front-place regions at n place fills.0 d is fills.1 ∙ ap (λ (r : Region). Some (set regions place r)) (sym fills.2), fills.3, fills.4)
 
 -- where no region has the bytes, there are none
 no_bytes : (regions : List Region) (at n : ℕ) → position (serves Write at n) regions ≡ None → IsTrue (covers regions Write at n) → n ≡ 0
@@ -148,7 +157,7 @@ pub fills_nothing : (regions : List Region) (at n : ℕ) (told : Option (List �
     → Fills (Read 0) regions regions at n told told
 fills_nothing regions at n told none covered =
     let empty = no_bytes regions at n none covered in
-    ([], omega arith, front_of_none regions at n empty, (refl, takes_all told told [] n (sym empty) (takes_nothing told)))
+    ([], omega arith, front_of_none regions at n empty, (refl, takes_all told told [] n (sym empty) (takes_nothing told)), All-nil (λ byte. byte < 256))
 
 -- ---- what the word says in the plain cases
 

@@ -1,6 +1,7 @@
 -- What a fill takes from the input, and what it leaves in memory.
 use Rattle.std.specs.Prelude.{◌≡◌, ℕ, ◌≤◌, List, ◌++◌, length, take, drop, Option, Some, None}
 use Rattle.guest_mem.specs.Regions.{Region}
+use Rattle.guest_mem.specs.Layout.{AreBytes}
 use Rattle.guest_mem.specs.Guest.{part, with_part, bytes_at, with_bytes}
 use Rattle.guest_mem.specs.declared.right.Right.TheVariants.{Write}
 use Rattle.guest_mem.specs.declared.streams.Filled.{Filled}
@@ -42,14 +43,14 @@ with_front regions at n bytes = front_over regions at bytes (bytes_at regions Wr
 -- a slice begins with what was taken
 abbrev pub FillsSlice : Filled → (old new : List ℕ) (before after : Option (List ℕ)) → Type 0
 FillsSlice answer old new before after =
-    (bytes : List ℕ) × (length bytes ≤ length old) × (new ≡ over_front bytes old) × TakesBy answer (length old) before after bytes
+    (bytes : List ℕ) × (length bytes ≤ length old) × (new ≡ over_front bytes old) × TakesBy answer (length old) before after bytes × AreBytes bytes
 
 -- n bytes of a region from an address on begin with what was taken
 abbrev pub FillsRegion : Filled → (old new : Region) (at n : ℕ) (before after : Option (List ℕ)) → Type 0
 FillsRegion answer old new at n before after =
-    (bytes : List ℕ) × (length bytes ≤ n) × (new ≡ with_part old at (over_front bytes (part old at n))) × TakesBy answer n before after bytes
+    (bytes : List ℕ) × (length bytes ≤ n) × (new ≡ with_part old at (over_front bytes (part old at n))) × TakesBy answer n before after bytes × AreBytes bytes
 
 -- n bytes of memory from an address on begin with what was taken
 abbrev pub Fills : Filled → (old new : List Region) (at n : ℕ) (before after : Option (List ℕ)) → Type 0
 Fills answer old new at n before after =
-    (bytes : List ℕ) × (length bytes ≤ n) × (with_front old at n bytes ≡ Some new) × TakesBy answer n before after bytes
+    (bytes : List ℕ) × (length bytes ≤ n) × (with_front old at n bytes ≡ Some new) × TakesBy answer n before after bytes × AreBytes bytes

@@ -7,7 +7,7 @@ use lib.Signed.{mag, nat_abs-le}
 use mir.Val.{SFits}
 
 -- the high half fits 32 bits
-high_fits : (z : ℤ) → mag z < 2 ^ 63 → mag (int_shr z 32) < 2 ^ 31
+pub high_fits : (z : ℤ) → mag z < 2 ^ 63 → mag (int_shr z 32) < 2 ^ 31
 high_fits (pos n) h = omega arith
 high_fits (negsuc n) h = omega arith
 

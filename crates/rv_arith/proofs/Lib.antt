@@ -1,1 +1,2 @@
 mod Halves
+pub mod Results

@@ -1,2 +1,4 @@
+pub mod Composing
 pub mod Counting
+pub mod Moving
 pub mod Running

@@ -1,5 +1,5 @@
 -- Runs: the machine's steps, one after another, what they take from the input and what they write.
-use Rattle.std.specs.Prelude.{◌≡◌, ℕ, zero, suc, ◌+◌, ◌≤◌, List, [], ◌++◌, length, take, drop, Option, Some, None, Result, Ok, Err}
+use Rattle.std.specs.Prelude.{◌≡◌, ℕ, zero, suc, ◌+◌, ◌<◌, ◌≤◌, ◌⊎◌, List, [], ◌++◌, length, take, drop, Option, Some, None, Result, Ok, Err}
 use Rattle.fsc_outside.specs.Streams.{Appends, AppendsFront}
 use Rattle.rv_isa.specs.declared.inst.Inst.{Inst}
 use Rattle.rv_run.specs.declared.stop.TrapKind.{TrapKind}
@@ -7,6 +7,7 @@ use Rattle.rv_run.specs.declared.stop.Step.{Step}
 use Rattle.rv_run.specs.declared.stop.Step.TheVariants as step
 use Rattle.rv_run.specs.declared.stop.Stop.{Stop}
 use Rattle.rv_run.specs.declared.stop.Stop.TheVariants as stop
+use Rattle.guest_mem.specs.Layout.{AreBytes}
 use Rattle.guest_mem.specs.Filling.{TakesUpTo, TakesFront}
 use Rattle.rv_run.specs.Machine.{State, Action, Goes, Takes, Exits, Stops, Traps, row, action_of, with_filled, counted}
 
@@ -45,6 +46,11 @@ unfoldable pub image_run : ℕ → State → (input : List ℕ) → ImageRun
 image_run zero s input = record { machine = s; written = []; left = input; asked = 0; stop = stop.Steps }
 image_run (suc n) s input = beginning s (action_of s) input (image_run n)
 
+-- So many instructions lead from a state with an input to another with what is left of it, and none of them ends the run.
+-- They write these bytes, and ask the input for so many.
+pub record Leads (k : ℕ) (s : State) (input : List ℕ) (t : State) (left written : List ℕ) (asked : ℕ) : Type 0 where
+  pub run : image_run k s input ≡ record { machine = t; written = written; left = left; asked = asked; stop = stop.Steps }
+
 -- ---- how the program carries them out over a source and a sink
 
 -- what the source has left, and what the sink holds, where they tell
@@ -55,7 +61,7 @@ pub record Streams : Type 0 where
 -- an instruction went on
 abbrev pub GoesOn : Action → (new : State) (before after : Streams) → Type 0
 GoesOn (Goes bytes t) new before after = (new ≡ t) × (after.left ≡ before.left) × Appends before.written after.written bytes
-GoesOn (Takes n t) new before after = (bytes : List ℕ) × (new ≡ t bytes) × TakesUpTo n before.left after.left bytes × (after.written ≡ before.written)
+GoesOn (Takes n t) new before after = (bytes : List ℕ) × (new ≡ t bytes) × TakesUpTo n before.left after.left bytes × (after.written ≡ before.written) × AreBytes bytes
 GoesOn (Exits status) new before after = ⊥
 GoesOn (Stops kind block offset width) new before after = ⊥
 GoesOn (Traps kind) new before after = ⊥
@@ -80,7 +86,7 @@ IsCutShort (Traps kind) before after = ⊥
 abbrev pub IsReadCut : Action → (old new : State) (before after : Streams) → Type 0
 IsReadCut (Takes n t) old new before after =
     (bytes : List ℕ) × (new ≡ counted (with_filled old bytes)) × TakesFront bytes before.left after.left × (length bytes ≤ n)
-    × (after.written ≡ before.written)
+    × (after.written ≡ before.written) × AreBytes bytes
 IsReadCut (Goes bytes t) old new before after = ⊥
 IsReadCut (Exits status) old new before after = ⊥
 IsReadCut (Stops kind block offset width) old new before after = ⊥
@@ -150,3 +156,53 @@ Runs run stop.Steps new before after = RunsWhole run stop.Steps new before after
 Runs run stop.ReadFault new before after = AppendsFront before.written after.written run.written
 Runs run stop.WriteFault new before after = AppendsFront before.written after.written run.written
 Runs run stop.NoMemory new before after = AppendsFront before.written after.written run.written
+
+-- Some of the n instructions ran whole, and the next one ended the run.
+pub record EndsWithin (n : ℕ) (old new : State) (given : List ℕ) (ending : Stop) (before after : Streams) : Type 0 where
+  pub steps : ℕ
+  pub fewer : steps < n
+  -- where those led
+  pub last : State
+  pub left : List ℕ
+  pub written : List ℕ
+  pub asked : ℕ
+  pub leads : Leads steps old given last left written asked
+  -- what source and sink had then
+  pub now : Streams
+  pub wrote : Appends before.written now.written written
+  pub keeps : LeavesInput before.left now.left left
+  -- and what the next one did
+  pub ends : EndsBy (action_of last) ending last new now after
+
+-- ---- runs over a source that tells nothing
+
+-- an action goes on to a state, with these bytes taken from the input
+abbrev pub PassesTo : Action → (taken : List ℕ) → State → Type 0
+PassesTo (Goes bytes t) taken u = (taken ≡ []) × (u ≡ t)
+PassesTo (Takes n t) taken u = (length taken ≤ n) × AreBytes taken × (u ≡ t taken)
+PassesTo (Exits status) taken u = ⊥
+PassesTo (Stops kind block offset width) taken u = ⊥
+PassesTo (Traps kind) taken u = ⊥
+
+-- what an action writes
+abbrev pub written_by : Action → List ℕ
+written_by (Goes bytes t) = bytes
+written_by (Takes n t) = []
+written_by (Exits status) = []
+written_by (Stops kind block offset width) = []
+written_by (Traps kind) = []
+
+-- A state is reached from another by actions, whatever they took from the input, and these bytes were written on the way.
+pub data IsReached (from : State) : State → (written : List ℕ) → Type 0 where
+  here : IsReached from from []
+  onward : (s t : State) (written taken : List ℕ) → IsReached from s written → PassesTo (action_of s) taken t → IsReached from t (written ++ written_by (action_of s))
+
+-- The run came to a state that is reached from the first, and there n instructions had run, or the next one ended it.
+pub record EndsWhereReached (n : ℕ) (old new : State) (ending : Stop) (before after : Streams) : Type 0 where
+  pub last : State
+  pub written : List ℕ
+  pub reached : IsReached old last written
+  pub now : Streams
+  pub wrote : Appends before.written now.written written
+  pub ends : ((ending ≡ stop.Steps) × (new ≡ last) × (after ≡ now) × (last.count ≡ old.count + n))
+      ⊎ (EndsBy (action_of last) ending last new now after × (last.count < old.count + n))

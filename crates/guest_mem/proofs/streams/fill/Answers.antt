@@ -1,7 +1,7 @@
 use Rattle.std.proofs.Common.{◌+◌, ◌-◌, length-take, take, ◌∙◌, refl, arith}
 use Rattle.std.proofs.lemmas.List.{length-take-le, take-append-le}
 use Rattle.std.proofs.lemmas.Grind.{common_steps}
-use Rattle.guest_mem.proofs.Filling.{Copies, behind_more, front_more, over_front_of, takes_front, takes_no_more, takes_rest}
+use Rattle.guest_mem.proofs.Filling.{Copies, behind_more, front_more, taken_bytes, over_front_of, takes_front, takes_no_more, takes_rest}
 use Rattle.guest_mem.proofs.streams.fill.Goals as goal
 
 pub loop-taken-preserved : goal.loop-taken-preserved
@@ -19,6 +19,7 @@ loop-taken-preserved g c =
       within = grind (arith, common_steps);
       behind = behind_more _ _ _ _ _ n _ copies before.behind;
       front = front_more _ _ _ _ _ _ _ n _ copies before.front c.in-Moved.ensures.taken;
+      bytes = taken_bytes _ _ (λ i. omega (arith, c.type_inv.target i));
       counted = omega (arith, c.in-Moved.ensures.counted);
       untouched = λ none. grind (arith, common_steps);
     }
@@ -31,6 +32,7 @@ returns-in-End-clause-fills g c =
       omega (arith, c.loop-taken.auto.target),
       over_front_of _ _ _ before.within before.behind,
       (long, takes_rest _ _ _ _ _ (omega (arith, c.loop-taken.auto.target)) before.front (c.in-End.ensures.end refl) c.in-End.ensures.taken),
+      before.bytes,
     )
 
 pub returns-in-Failed-clause-fills : goal.returns-in-Failed-clause-fills
@@ -41,4 +43,5 @@ returns-in-Failed-clause-fills g c =
       omega (arith, c.loop-taken.auto.target),
       over_front_of _ _ _ before.within before.behind,
       (long, takes_front _ _ _ (takes_no_more _ _ _ _ before.front c.in-Failed.ensures.taken)),
+      before.bytes,
     )
