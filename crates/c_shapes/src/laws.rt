@@ -1,5 +1,6 @@
 //! The laws of shapes.
 
+ghost use Rattle.c_shapes.specs.Runs.{WatchingIsSilent};
 ghost use Rattle.c_shapes.specs.Laws.{DecidesOnce, DecidingIsNoAccess, EmptyCopyDecidesNothing, FiveAccesses, FailingAccess, AccessOfNothing, MisplacedRoot};
 
 /// The law of deciding. A decided shape stays, deciding is no access, and a copy of no bytes decides nothing.
@@ -16,4 +17,10 @@ pub fn block_is_watched()
     ensures failing { FailingAccess }
     ensures nothing { AccessOfNothing }
     ensures misplaced { MisplacedRoot }
+{}
+
+/// The law of watching. What is watched changes nothing of a run: not its states, its cost, what it writes and takes, nor its
+/// end.
+pub fn runs_are_watched<S>()
+    ensures { WatchingIsSilent S }
 {}

@@ -4,4 +4,4 @@
 
 mod laws;
 
-pub use laws::{block_is_watched, shapes_stay};
+pub use laws::{block_is_watched, runs_are_watched, shapes_stay};

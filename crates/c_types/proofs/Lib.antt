@@ -1,0 +1,5 @@
+pub mod Depths
+pub mod Keeping
+pub mod Nexts
+pub mod Pushed
+pub mod Qualifying

@@ -1,6 +1,6 @@
 -- Tables that are built node by node: each pointer, array, function and qualified type stands in them once, so that the same type
 -- is the same number.
-use Rattle.std.specs.Prelude.{ℕ, ◌+◌, ◌==◌, nat_lt, ◌&&◌, Bool, true, false, if◌then◌else◌, List, [], ◌∷◌, ◌++◌, length, nat_eq}
+use Rattle.std.specs.Prelude.{ℕ, ◌+◌, ◌==◌, nat_lt, ◌&&◌, Bool, true, false, if◌then◌else◌, List, [], ◌∷◌, ◌++◌, length, nat_eq, Option, Some, None}
 use Rattle.std.specs.List.{position_or_len}
 use Rattle.std.specs.Cmp.Lexicographic.{pointwise}
 use Rattle.c_types.specs.declared.node.TypeNode.{TypeNode}
@@ -14,7 +14,7 @@ same_test false false = true
 -- ---- which node is that of a type
 
 abbrev pub is_pointer : (to : ℕ) → TypeNode → Bool
-is_pointer t (Pointer to) = to == t
+is_pointer t (Pointer to) = t == to
 is_pointer t Void = false
 is_pointer t (Arithmetic b) = false
 is_pointer t (Array of count) = false
@@ -25,7 +25,7 @@ is_pointer t (Enum tag) = false
 is_pointer t (Qualified of bits) = false
 
 abbrev pub is_array : (of count : ℕ) → TypeNode → Bool
-is_array t n (Array of count) = (of == t) && (count == n)
+is_array t n (Array of count) = (t == of) && (n == count)
 is_array t n Void = false
 is_array t n (Arithmetic b) = false
 is_array t n (Pointer to) = false
@@ -36,7 +36,7 @@ is_array t n (Enum tag) = false
 is_array t n (Qualified of bits) = false
 
 abbrev pub is_qualified : (of bits : ℕ) → TypeNode → Bool
-is_qualified t b (Qualified of bits) = (of == t) && (bits == b)
+is_qualified t b (Qualified of bits) = (t == of) && (b == bits)
 is_qualified t b Void = false
 is_qualified t b (Arithmetic c) = false
 is_qualified t b (Pointer to) = false
@@ -48,7 +48,7 @@ is_qualified t b (Enum tag) = false
 
 abbrev pub is_function : (returns : ℕ) → (is_known : Bool) → (parameters : List ℕ) → (is_variadic : Bool) → TypeNode → Bool
 is_function t k ps v (Function returns is_known parameters is_variadic) =
-    (returns == t) && same_test is_known k && pointwise nat_eq parameters ps && same_test is_variadic v
+    (t == returns) && same_test k is_known && pointwise nat_eq ps parameters && same_test v is_variadic
 is_function t k ps v Void = false
 is_function t k ps v (Arithmetic b) = false
 is_function t k ps v (Pointer to) = false
@@ -77,6 +77,10 @@ index_of nodes node = position_or_len (same_type node) nodes
 -- the table with it behind it, where it does not stand there
 abbrev pub with_node : List TypeNode → TypeNode → List TypeNode
 with_node nodes node = if nat_lt (index_of nodes node) (length nodes) then nodes else nodes ++ (node ∷ [])
+
+-- its number, where it stands there
+abbrev pub number_of : List TypeNode → TypeNode → Option ℕ
+number_of nodes node = if nat_lt (index_of nodes node) (length nodes) then Some (index_of nodes node) else None
 
 -- a number outside the table is that of void
 abbrev pub within : List TypeNode → (id : ℕ) → ℕ

@@ -7,6 +7,7 @@ use Rattle.std.specs.Cmp.Lexicographic.{pointwise}
 use Rattle.std.specs.Prelude.{nat_eq}
 use Rattle.fsc_base.specs.declared.word.WordKind.{WordKind}
 use Rattle.fsc_base.specs.declared.word.WordKind.TheVariants.{Fat, Narrow}
+use Rattle.c_types.specs.declared.layout.Layout.{Layout}
 use Rattle.c_types.specs.declared.node.Basic.{Basic}
 use Rattle.c_types.specs.declared.node.Basic.TheVariants as basic
 use Rattle.c_types.specs.declared.node.Field.{Field}
@@ -16,12 +17,6 @@ use Rattle.c_types.specs.declared.node.TypeNode.{TypeNode}
 use Rattle.c_types.specs.declared.node.TypeNode.TheVariants.{Void, Basic as Arithmetic, Pointer, Array, Function, Struct, Union, Enum, Qualified}
 use Rattle.c_types.specs.Nodes.{node_at, unqualified}
 use Rattle.c_types.specs.Periods.{period_of, is_fat}
-
--- A complete object type as memory sees it: its size and alignment in bytes, and the kinds of its words, in their least period.
-pub record Layout : Type 0 where
-  pub size : ℕ
-  pub align : ℕ
-  pub kinds : List WordKind
 
 -- ---- scalars
 
@@ -46,11 +41,23 @@ scalar size = record { size = size; align = size; kinds = (if size == 4 then Fat
 abbrev pub Layouts : Type 0
 Layouts = ℕ → Option Layout
 
-abbrev pub nothing : Layout
-nothing = record { size = 0; align = 1; kinds = [] }
+-- a field with the layout of its type
+pub record Part : Type 0 where
+  pub field : Field
+  pub layout : Layout
 
-abbrev pub known : Layouts → (id : ℕ) → Layout
-known layouts id = unwrap_or (layouts id) nothing
+abbrev pub part : Field → Layout → Part
+part field layout = record { field = field; layout = layout }
+
+abbrev pub with_part : Field → Option Layout → Option (List Part) → Option (List Part)
+with_part field None parts = None
+with_part field (Some layout) None = None
+with_part field (Some layout) (Some parts) = Some (part field layout ∷ parts)
+
+-- the fields with their layouts, where each has one
+abbrev pub parts_of : Layouts → List Field → Option (List Part)
+parts_of layouts [] = Some []
+parts_of layouts (field ∷ fields) = with_part field (layouts field.kind) (parts_of layouts fields)
 
 abbrev pub next_multiple : (align at : ℕ) → ℕ
 next_multiple align at = (at + (align - 1)) / align * align
@@ -59,49 +66,57 @@ abbrev pub is_bit_field : Field → Bool
 is_bit_field field = not (field.count == 0)
 
 -- where a field lies when so many bytes lie before it: a bit-field at bit 0 opens a unit, every other is in that of the one before
-abbrev pub offset_of : Layouts → (end : ℕ) → Field → ℕ
-offset_of layouts end field =
-    if is_bit_field field
-    then (if field.first == 0 then next_multiple 4 end else end - 4)
-    else next_multiple (known layouts field.kind).align end
+abbrev pub offset_of : (end : ℕ) → Part → ℕ
+offset_of end p =
+    if is_bit_field p.field
+    then (if p.field.first == 0 then next_multiple 4 end else end - 4)
+    else next_multiple p.layout.align end
 
 -- where the bytes end that a field takes; a bit-field takes its whole unit
-abbrev pub end_at : Layouts → (offset : ℕ) → Field → ℕ
-end_at layouts offset field = if is_bit_field field then offset + 4 else offset + (known layouts field.kind).size
+abbrev pub end_at : (offset : ℕ) → Part → ℕ
+end_at offset p = if is_bit_field p.field then offset + 4 else offset + p.layout.size
 
-abbrev pub align_of_field : Layouts → Field → ℕ
-align_of_field layouts field = if is_bit_field field then 4 else (known layouts field.kind).align
+abbrev pub align_of_part : Part → ℕ
+align_of_part p = if is_bit_field p.field then 4 else p.layout.align
 
-abbrev pub member_at : (offset : ℕ) → Field → Member
-member_at offset field = record { name = field.name; kind = field.kind; offset = offset; first = field.first; count = field.count }
+-- a field where it lies
+pub record Placed : Type 0 where
+  pub offset : ℕ
+  pub part : Part
+
+abbrev pub placed : (offset : ℕ) → Part → Placed
+placed offset p = record { offset = offset; part = p }
 
 -- the members of a struct, one behind another
-abbrev pub struct_members : Layouts → (end : ℕ) → List Field → List Member
-struct_members layouts end [] = []
-struct_members layouts end (field ∷ fields) = let offset = offset_of layouts end field in
-    member_at offset field ∷ struct_members layouts (end_at layouts offset field) fields
+abbrev pub struct_places : (end : ℕ) → List Part → List Placed
+struct_places end [] = []
+struct_places end (p ∷ parts) = placed (offset_of end p) p ∷ struct_places (end_at (offset_of end p) p) parts
 
-abbrev pub struct_end : Layouts → (end : ℕ) → List Field → ℕ
-struct_end layouts end [] = end
-struct_end layouts end (field ∷ fields) = struct_end layouts (end_at layouts (offset_of layouts end field) field) fields
+abbrev pub struct_end : (end : ℕ) → List Part → ℕ
+struct_end end [] = end
+struct_end end (p ∷ parts) = struct_end (end_at (offset_of end p) p) parts
 
 -- those of a union, all at 0
-abbrev pub union_end : Layouts → List Field → ℕ
-union_end layouts [] = 0
-union_end layouts (field ∷ fields) = max (end_at layouts 0 field) (union_end layouts fields)
+abbrev pub union_end : List Part → ℕ
+union_end [] = 0
+union_end (p ∷ parts) = max (end_at 0 p) (union_end parts)
 
-abbrev pub members_at : (is_union : Bool) → Layouts → List Field → List Member
-members_at false layouts fields = struct_members layouts 0 fields
-members_at true layouts fields = map (member_at 0) fields
+abbrev pub places_of : (is_union : Bool) → List Part → List Placed
+places_of false parts = struct_places 0 parts
+places_of true parts = map (placed 0) parts
 
-abbrev pub end_of : (is_union : Bool) → Layouts → List Field → ℕ
-end_of false layouts fields = struct_end layouts 0 fields
-end_of true layouts fields = union_end layouts fields
+abbrev pub end_of : (is_union : Bool) → List Part → ℕ
+end_of false parts = struct_end 0 parts
+end_of true parts = union_end parts
 
 -- the greatest alignment of a member
-abbrev pub greatest_align : Layouts → List Field → ℕ
-greatest_align layouts [] = 1
-greatest_align layouts (field ∷ fields) = max (align_of_field layouts field) (greatest_align layouts fields)
+abbrev pub greatest_align : List Part → ℕ
+greatest_align [] = 1
+greatest_align (p ∷ parts) = max (align_of_part p) (greatest_align parts)
+
+abbrev pub member_of_place : Placed → Member
+member_of_place p = let field = p.part.field in
+    record { name = field.name; kind = field.kind; offset = p.offset; first = field.first; count = field.count }
 
 -- ---- shapes
 
@@ -110,44 +125,41 @@ abbrev pub is_fat_word : (kinds : List WordKind) → (w : ℕ) → Bool
 is_fat_word kinds w = is_fat (slice_index_or kinds (w % length kinds) Narrow)
 
 -- a member that is no bit-field has a fat word there
-abbrev pub makes_fat : Layouts → (w : ℕ) → Member → Bool
-makes_fat layouts w member = let layout = known layouts member.kind in
-    (member.count == 0) && nat_le (member.offset / 4) w && nat_lt w (member.offset / 4 + layout.size / 4)
-    && is_fat_word layout.kinds (w - member.offset / 4)
+abbrev pub makes_fat : (w : ℕ) → Placed → Bool
+makes_fat w p =
+    not (is_bit_field p.part.field) && nat_le (p.offset / 4) w && nat_lt w (p.offset / 4 + p.part.layout.size / 4)
+    && is_fat_word p.part.layout.kinds (w - p.offset / 4)
 
 abbrev pub kind_of_word : (fat : Bool) → WordKind
 kind_of_word true = Fat
 kind_of_word false = Narrow
 
 -- the kinds of the first n words
-abbrev pub kinds_before : Layouts → List Member → (n : ℕ) → List WordKind
-kinds_before layouts members zero = []
-kinds_before layouts members (suc n) = kinds_before layouts members n ++ (kind_of_word (list_any (makes_fat layouts n) members) ∷ [])
+abbrev pub kinds_before : List Placed → (n : ℕ) → List WordKind
+kinds_before places zero = []
+kinds_before places (suc n) = kinds_before places n ++ (kind_of_word (list_any (makes_fat n) places) ∷ [])
 
 -- the shape of a struct or union: of one whose size is no multiple of 4 it is one narrow word, of one above 4,096 bytes one fat
 -- word, and else that of its words, of which those are fat in which a member has a fat word
-abbrev pub record_kinds : Layouts → List Member → (size : ℕ) → List WordKind
-record_kinds layouts members size =
+abbrev pub record_kinds : List Placed → (size : ℕ) → List WordKind
+record_kinds places size =
     if size % 4 == 0
-    then (if nat_lt 4096 size then Fat ∷ [] else period_of (kinds_before layouts members (size / 4)))
+    then (if nat_lt 4096 size then Fat ∷ [] else period_of (kinds_before places (size / 4)))
     else Narrow ∷ []
 
 -- ---- layouts
 
-abbrev pub record_size : (is_union : Bool) → Layouts → List Field → ℕ
-record_size is_union layouts fields = next_multiple (greatest_align layouts fields) (end_of is_union layouts fields)
+abbrev pub record_size : (is_union : Bool) → List Part → ℕ
+record_size is_union parts = next_multiple (greatest_align parts) (end_of is_union parts)
 
-abbrev pub record_layout : (is_union : Bool) → Layouts → List Field → Layout
-record_layout is_union layouts fields = let size = record_size is_union layouts fields in
-    record { size = size; align = greatest_align layouts fields; kinds = record_kinds layouts (members_at is_union layouts fields) size }
-
-abbrev pub is_laid_out : Layouts → Field → Bool
-is_laid_out layouts field = elim (layouts field.kind) as (λ x. Bool) [ None ↦ false | Some layout ↦ true ]
+abbrev pub record_layout : (is_union : Bool) → List Part → Layout
+record_layout is_union parts = let size = record_size is_union parts in
+    record { size = size; align = greatest_align parts; kinds = record_kinds (places_of is_union parts) size }
 
 -- a struct or union has a layout where it is complete and each member's type has one
 abbrev pub layout_of_record : (is_union : Bool) → Layouts → Record → Option Layout
 layout_of_record is_union layouts r =
-    if r.is_complete && list_all (is_laid_out layouts) r.fields then Some (record_layout is_union layouts r.fields) else None
+    if r.is_complete then option_map (record_layout is_union) (parts_of layouts r.fields) else None
 
 -- an array has its element's shape
 abbrev pub layout_of_array : (count : ℕ) → Layout → Layout
@@ -204,9 +216,13 @@ align_of nodes id = option_map (λ (l : Layout). l.align) (layout_of nodes id)
 abbrev pub kinds_of : List TypeNode → (id : ℕ) → Option (List WordKind)
 kinds_of nodes id = option_map (λ (l : Layout). l.kinds) (layout_of nodes id)
 
+abbrev pub members_of_record : (is_union : Bool) → Option (List Part) → List Member
+members_of_record is_union None = []
+members_of_record is_union (Some parts) = map member_of_place (places_of is_union parts)
+
 abbrev pub members_in : Layouts → TypeNode → List Member
-members_in layouts (Struct r) = members_at false layouts r.fields
-members_in layouts (Union r) = members_at true layouts r.fields
+members_in layouts (Struct r) = members_of_record false (parts_of layouts r.fields)
+members_in layouts (Union r) = members_of_record true (parts_of layouts r.fields)
 members_in layouts Void = []
 members_in layouts (Arithmetic b) = []
 members_in layouts (Pointer to) = []

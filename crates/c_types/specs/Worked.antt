@@ -6,7 +6,8 @@ use Rattle.c_types.specs.declared.node.Record.{Record}
 use Rattle.c_types.specs.declared.node.TypeNode.{TypeNode}
 use Rattle.c_types.specs.declared.node.TypeNode.TheVariants.{Array, Struct, Union, Qualified}
 use Rattle.c_types.specs.Nodes.{presets}
-use Rattle.c_types.specs.Layouts.{Layout, layout_of, members_of, member_at, next_first}
+use Rattle.c_types.specs.declared.node.Member.{Member}
+use Rattle.c_types.specs.Layouts.{layout_of, members_of, next_first}
 
 abbrev pub plain : (name : List ℕ) → (kind : ℕ) → Field
 plain name kind = record { name = name; kind = kind; first = 0; count = 0 }
@@ -37,9 +38,12 @@ three_fields = bits (codes "a") 7 0 3 ∷ bits (codes "b") 6 3 5 ∷ bits (codes
 abbrev pub BitFields : Type 0
 BitFields = layout_of (presets ++ (Struct (complete three_fields) ∷ [])) 10 ≡ Some (record { size = 8; align = 4; kinds = Narrow ∷ [] })
 
+abbrev pub member : (offset : ℕ) → Field → Member
+member offset field = record { name = field.name; kind = field.kind; offset = offset; first = field.first; count = field.count }
+
 abbrev pub BitMembers : Type 0
 BitMembers = members_of (presets ++ (Struct (complete three_fields) ∷ [])) 10
-    ≡ member_at 0 (bits (codes "a") 7 0 3) ∷ member_at 0 (bits (codes "b") 6 3 5) ∷ member_at 4 (bits (codes "c") 7 0 4) ∷ []
+    ≡ member 0 (bits (codes "a") 7 0 3) ∷ member 0 (bits (codes "b") 6 3 5) ∷ member 4 (bits (codes "c") 7 0 4) ∷ []
 
 -- where b begins behind a, c behind b with and without the field of width 0, and a field of 25 bits behind b
 abbrev pub FirstBits : Type 0

@@ -1,12 +1,16 @@
 //! C's types as tables of nodes, and how memory sees them: sizes, alignments, members and kinds of words (C90 6.1.2.5).
 #![tactic(auto)]
 
+mod form;
+mod laid;
 mod laws;
+mod layout;
 mod node;
 mod preset;
 mod table;
 
 pub use laws::worked_layouts;
+pub use layout::Layout;
 pub use node::{Basic, Field, Fields, Member, Members, Record, TypeId, TypeIds, TypeNode};
 pub use preset::{
     CHAR, INT, LONG, SHORT, SIGNED_CHAR, UNSIGNED, UNSIGNED_CHAR, UNSIGNED_LONG, UNSIGNED_SHORT,

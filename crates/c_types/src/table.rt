@@ -1,25 +1,20 @@
 //! A unit's types.
 
 ghost use Rattle.std.specs.Prelude.{◌≡◌, length, IfOk};
+ghost use Rattle.std.specs.Option.{option_copied};
+ghost use Rattle.c_types.specs.Built.{IsBuilt};
+ghost use Rattle.c_types.specs.Layouts.{layout_of, size_of, align_of};
 ghost use Rattle.c_types.specs.Nodes.{presets, node_at};
 
-use crate::node::{Basic, TypeId, TypeNode};
-use fsc_base::NoMemory;
-use std::alloc::Global;
+use crate::laid::LaidNodes;
+use crate::layout::Layout;
+use crate::node::{TypeId, TypeNode};
 use std::marker::Model;
-
-/// A node, and what is known of it.
-#[derive(Debug, Drop)]
-pub(crate) struct Kept {
-    pub node: TypeNode,
-}
 
 /// A unit's types. Contracts see the list of their nodes.
 #[derive(Drop)]
 pub struct TypeTable {
-    kept: Vec<Kept>,
-    /// What a number outside the table is read as.
-    outside: TypeNode,
+    nodes: LaidNodes,
 }
 
 impl Model for TypeTable {
@@ -28,31 +23,43 @@ impl Model for TypeTable {
 
     ghost Value = { List TypeNode };
 
-    ghost use Rattle.c_types.specs.Kept.{nodes_of};
-
-    ghost view = { λ t. nodes_of t.kept.items };
-
-    ghost use Rattle.std.specs.Prelude.{◌≡◌};
-    ghost use Rattle.c_types.specs.declared.node.TypeNode.TheVariants.{Void};
-
-    ghost invariant = { λ t. t.outside ≡ Void };
+    ghost view = { λ t. t.nodes };
 }
 
 impl TypeTable {
     /// The node of a type. A number outside the table is read as void.
     pub fn node(&self, id: TypeId) -> &TypeNode
-        ensures { result.now ≡ node_at self.now id }
+        ensures node { result.now ≡ node_at self.now id }
+        ensures built { IsBuilt self.now }
     {
-        match self.kept.get(id as usize) {
-            Some(kept) => &kept.node,
-            None => &self.outside,
-        }
+        self.nodes.node(id)
     }
 
     /// How many nodes there are.
     pub fn len(&self) -> usize
         ensures { result ≡ length self.now }
     {
-        self.kept.len()
+        self.nodes.len()
+    }
+
+    /// The layout of a type; None exactly where it is no complete object type. It takes no memory.
+    pub fn layout(&self, id: TypeId) -> Option<&Layout>
+        ensures { option_copied result ≡ layout_of self.now id }
+    {
+        self.nodes.layout(id)
+    }
+
+    /// The size of a type in bytes; None exactly where it is no complete object type. It takes no memory.
+    pub fn size(&self, id: TypeId) -> Option<u32>
+        ensures { result ≡ size_of self.now id }
+    {
+        Some(self.nodes.layout(id)?.size)
+    }
+
+    /// The alignment of a type in bytes; None exactly where it is no complete object type. It takes no memory.
+    pub fn align(&self, id: TypeId) -> Option<u32>
+        ensures { result ≡ align_of self.now id }
+    {
+        Some(self.nodes.layout(id)?.align)
     }
 }

@@ -1,11 +1,7 @@
 //! Bytes in tables: as text with escapes, and as hexadecimal numbers.
 
-use crate::number::number_of;
 use crate::refusal::NoStep;
 use std::alloc::{AllocError, Global};
-
-/// From how many equal bytes on they are shown once, with their number.
-const SHORTEST_RUN: usize = 8;
 
 /// What a hexadecimal digit stands for.
 fn digit_of(byte: u8) -> Option<u8> {
@@ -67,64 +63,29 @@ pub fn text_of(alloc: Global, bytes: &[u8]) -> Result<String, AllocError> {
     Ok(text)
 }
 
-/// Adds the bytes of one word: two hexadecimal digits, with a number and `*` before them where the byte is repeated.
-fn push_hex(bytes: &mut Vec<u8>, word: &str) -> Result<(), NoStep> {
-    let (count, digits) = match word.split_once('*') {
-        Some((count, digits)) => (number_of(count)?, digits),
-        None => (1, word),
-    };
-    let [high, low] = digits.as_bytes() else {
-        return Err(NoStep::Malformed("no byte of two digits"));
-    };
-    let Some(byte) = byte_of(*high, *low) else {
-        return Err(NoStep::Malformed("no hexadecimal digits"));
-    };
-    for _ in 0..count {
-        bytes.push(byte)?;
-    }
-    Ok(())
-}
-
-/// The bytes of words of two hexadecimal digits, each with a number and `*` before it where the byte is repeated. Refused
-/// where a word is none.
+/// The bytes of words of two hexadecimal digits. Refused where a word is none.
 pub fn bytes_of_hex(alloc: Global, words: &[&str]) -> Result<Vec<u8>, NoStep> {
     let mut bytes = Vec::new(alloc);
     for word in words {
-        push_hex(&mut bytes, word)?;
+        let [high, low] = word.as_bytes() else {
+            return Err(NoStep::Malformed("no byte of two digits"));
+        };
+        let Some(byte) = byte_of(*high, *low) else {
+            return Err(NoStep::Malformed("no hexadecimal digits"));
+        };
+        bytes.push(byte)?;
     }
     Ok(bytes)
 }
 
-/// How many bytes at the front are equal.
-fn run_length(bytes: &[u8]) -> usize {
-    match bytes {
-        [] => 0,
-        [first, ..] => bytes.iter().take_while(|byte| **byte == *first).count(),
-    }
-}
-
-/// Adds the words of the equal bytes at the front, `count` of them.
-fn push_run(alloc: Global, text: &mut String, byte: u8, count: usize) -> Result<(), AllocError> {
-    if count >= SHORTEST_RUN {
-        return text.push_str(&format!(in alloc; " {count}*{byte:02x}")?);
-    }
-    for _ in 0..count {
-        text.push_str(&format!(in alloc; " {byte:02x}")?)?;
-    }
-    Ok(())
-}
-
-/// Bytes as words of two hexadecimal digits, where eight and more equal ones are one word.
+/// Bytes as words of two hexadecimal digits.
 pub fn hex_of(alloc: Global, bytes: &[u8]) -> Result<String, AllocError> {
     let mut text = String::new(alloc);
-    let mut rest = bytes;
-    for _ in 0..bytes.len() {
-        let [first, ..] = rest else {
-            break;
-        };
-        let count = run_length(rest);
-        push_run(alloc, &mut text, *first, count)?;
-        rest = rest.get(count..).unwrap_or(&[]);
+    for byte in bytes {
+        if !text.is_empty() {
+            text.push(' ')?;
+        }
+        text.push_str(&format!(in alloc; "{byte:02x}")?)?;
     }
-    String::from_str(alloc, text.as_str().trim_start())
+    Ok(text)
 }

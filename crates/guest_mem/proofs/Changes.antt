@@ -16,13 +16,13 @@ use Rattle.guest_mem.proofs.Places.{Within, within_served, bytes_at-nothing, cov
 use Rattle.guest_mem.proofs.Layouts.{with_bytes-cases, with_bytes-last, length-with_part}
 
 -- Bytes that are read are those of the first region, or of the others.
-abbrev ReadsFirst : (region : Region) (right : Right) (at n : ℕ) (bytes : List ℕ) → Type 0
+abbrev pub ReadsFirst : (region : Region) (right : Right) (at n : ℕ) (bytes : List ℕ) → Type 0
 ReadsFirst region right at n bytes = (contains region right at n ≡ true) × (bytes ≡ part region at n)
 
-abbrev ReadsOthers : (region : Region) (regions : List Region) (right : Right) (at n : ℕ) (bytes : List ℕ) → Type 0
+abbrev pub ReadsOthers : (region : Region) (regions : List Region) (right : Right) (at n : ℕ) (bytes : List ℕ) → Type 0
 ReadsOthers region regions right at n bytes = (contains region right at n ≡ false) × (bytes_at regions right at n ≡ Some bytes)
 
-bytes_at-cases : (region : Region) (regions : List Region) (right : Right) (at n : ℕ) (bytes : List ℕ) → bytes_at (region ∷ regions) right at n ≡ Some bytes
+pub bytes_at-cases : (region : Region) (regions : List Region) (right : Right) (at n : ℕ) (bytes : List ℕ) → bytes_at (region ∷ regions) right at n ≡ Some bytes
     → ReadsFirst region right at n bytes ⊎ ReadsOthers region regions right at n bytes
 unfolding bytes_at
 bytes_at-cases region regions right at n bytes =
@@ -32,17 +32,17 @@ bytes_at-cases region regions right at n bytes =
       | false ↦ λ h. inr (refl, h)
     ]
 
-bytes_at-first : (region : Region) (regions : List Region) (right : Right) (at n : ℕ) → contains region right at n ≡ true
+pub bytes_at-first : (region : Region) (regions : List Region) (right : Right) (at n : ℕ) → contains region right at n ≡ true
     → bytes_at (region ∷ regions) right at n ≡ Some (part region at n)
 unfolding bytes_at
 bytes_at-first region regions right at n h = rw h refl
 
-bytes_at-others : (region : Region) (regions : List Region) (right : Right) (at n : ℕ) → contains region right at n ≡ false
+pub bytes_at-others : (region : Region) (regions : List Region) (right : Right) (at n : ℕ) → contains region right at n ≡ false
     → bytes_at (region ∷ regions) right at n ≡ bytes_at regions right at n
 unfolding bytes_at
 bytes_at-others region regions right at n h = rw h refl
 
-nothing_last : (right : Right) (at n : ℕ) → 0 < n → bytes_at [] right at n ≡ None
+pub nothing_last : (right : Right) (at n : ℕ) → 0 < n → bytes_at [] right at n ≡ None
 unfolding bytes_at
 nothing_last right at n some = grind (arith, nat_tests)
 
@@ -79,7 +79,7 @@ AreBytes-bytes_at (region ∷ regions) right at n bytes h held =
     ]
 
 -- of two regions that are apart only one has the bytes at a place
-misses : (region : Region) (regions : List Region) (right : Right) (at n from m : ℕ) → All (Apart region) regions → Within region from m → 0 < m
+pub misses : (region : Region) (regions : List Region) (right : Right) (at n from m : ℕ) → All (Apart region) regions → Within region from m → 0 < m
     → (at ≤ from) × (from + m ≤ at + n) → bytes_at regions right at n ≡ None
 misses region [] right at n from m apart within some inside = nothing_last right at n (omega arith)
 misses region (other ∷ regions) right at n from m apart within some inside =
@@ -126,7 +126,7 @@ bytes_at-part (region ∷ regions) right at n k (suc m) bytes apart h le =
     ]
 
 -- a change leaves what a region serves
-serves-with_part : (region : Region) (at : ℕ) (bytes : List ℕ) (right : Right) (from n : ℕ) → Within region at (length bytes)
+pub serves-with_part : (region : Region) (at : ℕ) (bytes : List ℕ) (right : Right) (from n : ℕ) → Within region at (length bytes)
     → contains (with_part region at bytes) right from n ≡ contains region right from n
 serves-with_part region at bytes right from n within =
     ap (λ (size : ℕ). (region.flags / flag_of right % 2 == 1) && (nat_le region.address from && nat_le (from + n) (region.address + size)))

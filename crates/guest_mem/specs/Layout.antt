@@ -1,6 +1,8 @@
 -- What stays of memory in a run: where its regions lie and what may be done with them; and that it holds bytes.
-use Rattle.std.specs.Prelude.{ℕ, ◌+◌, ◌<◌, ◌≤◌, ◌⊎◌, List, [], ◌∷◌, length, map, All}
+use Rattle.std.specs.Prelude.{◌≡◌, ℕ, ◌+◌, ◌/◌, ◌%◌, ◌<◌, ◌≤◌, ◌⊎◌, List, [], ◌∷◌, length, map, All}
 use Rattle.guest_mem.specs.Regions.{Region}
+use Rattle.guest_mem.specs.Rights.{flag_of}
+use Rattle.guest_mem.specs.declared.right.Right.TheVariants.{Execute, Write}
 
 -- a region without its bytes: address, flags and size
 pub record Extent : Type 0 where
@@ -30,3 +32,11 @@ AreBytes bytes = All (λ byte. byte < 256) bytes
 -- each number in memory is a byte
 abbrev pub HoldBytes : List Region → Type 0
 HoldBytes regions = All (λ (region : Region). AreBytes region.bytes) regions
+
+-- what may be executed may not be written
+abbrev pub IsFixed : Extent → Type 0
+IsFixed extent = extent.flags / flag_of Execute % 2 ≡ 1 → extent.flags / flag_of Write % 2 ≡ 0
+
+-- no store can change code
+abbrev pub KeepsCode : List Extent → Type 0
+KeepsCode extents = All IsFixed extents

@@ -2,3 +2,4 @@ pub mod Decoding
 pub mod Encoding
 pub mod Fields
 pub mod Formats
+pub mod Spelling

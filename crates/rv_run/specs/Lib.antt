@@ -1,3 +1,4 @@
+pub mod CodeAt
 pub mod ImageRun
 pub mod Machine
 pub mod Sound

@@ -6,7 +6,7 @@ ghost use Rattle.fsc_base.specs.Image.{IsSound};
 ghost use Rattle.guest_mem.specs.Guest.{loaded};
 ghost use Rattle.rv_run.specs.Machine.{start_of, action_of, row, counted, WordIs};
 ghost use Rattle.rv_isa.specs.Encoding.{IsValid};
-ghost use Rattle.rv_run.specs.ImageRun.{FindsRow, Performs, Runs, TakesNothing, IsKnown, image_run};
+ghost use Rattle.rv_run.specs.ImageRun.{FindsRow, Performs, Runs, TakesNothing, IsKnown, image_run, EndsWithin, EndsWhereReached};
 
 use crate::stop::{Step, Stop, TrapKind};
 use fsc_base::{Image, NoMemory};
@@ -171,6 +171,10 @@ impl Machine {
     pub fn run<S: Source, O: Sink>(&mut self, n: u64, input: &mut S, out: &mut O) -> Stop
         requires { self.old.count + n < 2 ^ 64 }
         ensures run { (given : List ℕ) → IsKnown (S.left input.old) given (image_run n self.old given).asked → Runs (image_run n self.old given) result self.new
+            (record { left = S.left input.old; written = O.written out.old }) (record { left = S.left input.new; written = O.written out.new }) }
+        ensures ended { (given : List ℕ) → IsKnown (S.left input.old) given (image_run n self.old given).asked → result ≢ Stop.Steps → EndsWithin n self.old self.new given result
+            (record { left = S.left input.old; written = O.written out.old }) (record { left = S.left input.new; written = O.written out.new }) }
+        ensures reached { EndsWhereReached n self.old self.new result
             (record { left = S.left input.old; written = O.written out.old }) (record { left = S.left input.new; written = O.written out.new }) }
         ensures read_failed { result ≡ Stop.ReadFault → Rose (S.fault_count input.old) (S.fault_count input.new) }
         ensures write_failed { result ≡ Stop.WriteFault → Rose (O.fault_count out.old) (O.fault_count out.new) }
