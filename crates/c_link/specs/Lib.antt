@@ -1,0 +1,9 @@
+pub mod Blocks
+pub mod Broken
+pub mod Compared
+pub mod Laws
+pub mod Library
+pub mod Linked
+pub mod Names
+pub mod Start
+pub mod Views
