@@ -1,7 +1,9 @@
+pub mod Agreeing
 pub mod Building
 pub mod Built
 pub mod Kept
 pub mod Layouts
 pub mod Nodes
 pub mod Periods
+pub mod Texts
 pub mod Worked
