@@ -17,6 +17,3 @@ pub use literal::{add_string, character_constant};
 pub use punctuator::{Punctuator, read_punctuator};
 pub use single::number;
 pub use token::{BasicType, Token, TokenKind, Tokens};
-
-#[cfg(test)]
-mod tests;

@@ -14,6 +14,3 @@ pub use forms::{go_forms, run_forms};
 pub use names::Names;
 pub use refusal::WordsNo;
 pub use request::Request;
-
-#[cfg(test)]
-mod tests;

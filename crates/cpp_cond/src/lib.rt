@@ -8,6 +8,3 @@ mod term;
 mod value;
 
 pub use line::condition;
-
-#[cfg(test)]
-mod tests;

@@ -13,6 +13,3 @@ mod store;
 mod substitution;
 
 pub use macros::Macros;
-
-#[cfg(test)]
-mod tests;

@@ -16,6 +16,3 @@ mod unit;
 
 pub use refusal::PpNo;
 pub use unit::preprocess;
-
-#[cfg(test)]
-mod tests;

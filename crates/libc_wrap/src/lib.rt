@@ -6,6 +6,3 @@ mod library;
 
 pub use headers::header;
 pub use library::{library_count, library_names, library_text};
-
-#[cfg(test)]
-mod tests;

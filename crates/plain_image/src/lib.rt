@@ -119,6 +119,3 @@ pub fn image(alloc: Global, bytes: &[u8], status: u8) -> Result<Image, NoMemory>
     let image = assembled(alloc, bytes, status)?;
     Ok(image)
 }
-
-#[cfg(test)]
-mod tests;

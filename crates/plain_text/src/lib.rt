@@ -9,6 +9,3 @@ mod token;
 pub use number::decimal_number;
 pub use program::{Program, ReadNo};
 pub use reading::{one_program, read_program};
-
-#[cfg(test)]
-mod tests;

@@ -14,6 +14,3 @@ pub use piece::kind_of;
 pub use reading::pp_tokens;
 pub use token::{PpKind, PpToken, PpTokens};
 pub use unit::{Names, PpUnit};
-
-#[cfg(test)]
-mod tests;

@@ -1,6 +1,7 @@
 use Rattle.std.proofs.Common.{◌≡◌, ◌++◌, take}
 use Rattle.std.specs.List.{flat_map}
-use Rattle.plain_image.specs.Code.{prologue, write_byte, spelled}
+use Rattle.rv_isa.specs.Spelling.{spelled}
+use Rattle.plain_image.specs.Code.{prologue, write_byte}
 use Rattle.plain_image.proofs.code.Given as goal
 
 -- the code of the bytes so far
