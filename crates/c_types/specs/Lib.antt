@@ -4,5 +4,6 @@ pub mod Kept
 pub mod Layouts
 pub mod Nodes
 pub mod Numbered
+pub mod Parts
 pub mod Periods
 pub mod Worked
