@@ -128,3 +128,16 @@ layout_by-suc k nodes id = refl
 pub layout_by-zero : (nodes : List TypeNode) (id : ℕ) (l : Layout) → layout_by 0 nodes id ≡ Some l → ⊥
 unfolding layout_by
 layout_by-zero nodes id l is = cc
+
+-- ---- arrays
+
+pub array_none : (layouts : Layouts) (of : ℕ) → layout_in layouts (Array of 0) ≡ None
+array_none layouts of = refl
+
+pub array_some : (layouts : Layouts) (of count : ℕ) → (count ≡ 0 → ⊥) → layout_in layouts (Array of count) ≡ option_map (layout_of_array count) (layouts of)
+array_some layouts of zero some = absurd (some refl)
+array_some layouts of (suc count) some = refl
+
+pub array_same : (one other : Layouts) (a b count : ℕ) → one a ≡ other b → layout_in one (Array a count) ≡ layout_in other (Array b count)
+array_same one other a b zero same = refl
+array_same one other a b (suc count) same = ap (option_map (layout_of_array (suc count))) same

@@ -1,5 +1,5 @@
 -- What a table keeps, when it grows.
-use Rattle.std.proofs.Common.{◌≡◌, ℕ, ◌+◌, ◌<◌, ◌≤◌, Bool, true, false, List, [], ◌∷◌, ◌++◌, length, get_or, map, Option, Some, None, refl, sym, ap, ◌∙◌, subst, length-append, arith}
+use Rattle.std.proofs.Common.{◌≡◌, ℕ, ◌+◌, ◌<◌, ◌≤◌, Bool, true, false, cond, List, [], ◌∷◌, ◌++◌, length, get_or, map, Option, Some, None, refl, sym, ap, ◌∙◌, subst, length-append, arith}
 use Rattle.std.proofs.lemmas.List.{get_or_append_left, get_or_past, map-append}
 use Rattle.std.proofs.Math.ListN.{get_or-map}
 use Rattle.std.proofs.Math.Seq.{get_or-append_seam}
@@ -29,8 +29,8 @@ members_agree n one other (Arithmetic b) below agree = refl
 members_agree n one other (Pointer to) below agree = refl
 members_agree n one other (Array of count) below agree = refl
 members_agree n one other (Function returns is_known parameters is_variadic) below agree = refl
-members_agree n one other (Struct r) below agree = ap (members_of_record false) (parts_agree n one other r.fields below agree)
-members_agree n one other (Union r) below agree = ap (members_of_record true) (parts_agree n one other r.fields below agree)
+members_agree n one other (Struct r) below agree = ap (λ (ps : Option (List Part)). cond r.is_complete (members_of_record false ps) []) (parts_agree n one other r.fields below agree)
+members_agree n one other (Union r) below agree = ap (λ (ps : Option (List Part)). cond r.is_complete (members_of_record true ps) []) (parts_agree n one other r.fields below agree)
 members_agree n one other (Enum tag) below agree = refl
 members_agree n one other (Qualified of bits) below agree = refl
 

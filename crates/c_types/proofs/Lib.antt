@@ -1,5 +1,14 @@
+pub mod Collecting
+pub mod Completed
 pub mod Depths
+pub mod FormEquality
+pub mod Gathering
 pub mod Keeping
+pub mod Looking
+pub mod Multiples
 pub mod Nexts
+pub mod Numbering
+pub mod Placing
 pub mod Pushed
 pub mod Qualifying
+pub mod Shapes

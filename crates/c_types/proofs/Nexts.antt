@@ -1,6 +1,6 @@
 -- Nodes that may stand behind a table.
 use Rattle.std.proofs.Common.{◌≡◌, ℕ, zero, suc, ◌+◌, ◌*◌, ◌<◌, ◌≤◌, Bool, true, false, List, [], ◌∷◌, length, Option, Some, None, IsSome, refl, sym, ap, ◌∙◌, subst, lit<, lit≤, arith}
-use Rattle.std.specs.Option.{option_map}
+use Rattle.std.specs.Option.{option_map, is_some, IsSomeAnd}
 use Rattle.c_types.specs.declared.layout.Layout.{Layout}
 use Rattle.c_types.specs.declared.node.Basic.{Basic}
 use Rattle.c_types.specs.declared.node.Basic.TheVariants as basic
@@ -8,7 +8,8 @@ use Rattle.c_types.specs.declared.node.Record.{Record}
 use Rattle.c_types.specs.declared.node.TypeNode.{TypeNode}
 use Rattle.c_types.specs.declared.node.TypeNode.TheVariants.{Void, Basic as Arithmetic, Pointer, Array, Function, Struct, Union, Enum, Qualified}
 use Rattle.c_types.specs.Nodes.{node_at}
-use Rattle.c_types.specs.Layouts.{layout_in, layout_of, layout_of_array, scalar, size_of_basic}
+use Rattle.c_types.specs.Layouts.{layout_in, layout_of, layout_of_array, size_of, depth_of, scalar, size_of_basic}
+use Rattle.c_types.proofs.Pushed.{laid_within}
 use Rattle.c_types.specs.Built.{IsModest, IsBuilt, IsNext, takes_qualifiers}
 
 modest_scalar : (size : ℕ) (l : Layout) → 0 < size → size ≤ 4 → (let one : Option Layout = Some (scalar size) in one ≡ Some l) → IsModest l
@@ -66,3 +67,42 @@ next_struct nodes tag = record { below = tt; made = tt; normal = tt; modest = λ
 
 pub next_union : (nodes : List TypeNode) (tag : List ℕ) → IsNext nodes (Union (incomplete tag))
 next_union nodes tag = record { below = tt; made = tt; normal = tt; modest = λ l is. none_is_modest is; light = refl }
+
+array_modest : (element : Layout) (count : ℕ) (l : Layout) (o : Option Layout) → o ≡ Some element → IsModest element → element.size * count ≤ 134217728
+    → option_map (layout_of_array count) o ≡ Some l → IsModest l
+array_modest element count l None is modest fits said = absurd cc
+array_modest element count l (Some e) is modest fits said =
+    let here : e ≡ element = cc in
+    let same : layout_of_array count e ≡ l = cc in
+    subst IsModest same (rw here (record { small = fits; aligned = modest.aligned; within = modest.within; few = modest.few }))
+
+array_modest_any : (nodes : List TypeNode) (built : IsBuilt nodes) (of count : ℕ) (element : Layout) → layout_of nodes of ≡ Some element
+    → element.size * count ≤ 134217728 → (l : Layout) → layout_in (layout_of nodes) (Array of count) ≡ Some l → IsModest l
+array_modest_any nodes built of zero element is fits l said = none_is_modest said
+array_modest_any nodes built of (suc count) element is fits l said =
+    array_modest element (suc count) l (layout_of nodes of) is (built.modest of element is) fits said
+
+pub next_array : (nodes : List TypeNode) (built : IsBuilt nodes) (of count : ℕ) (element : Layout) → layout_of nodes of ≡ Some element
+    → element.size * count ≤ 134217728 → IsNext nodes (Array of count)
+next_array nodes built of count element is fits = record {
+  below = laid_within nodes of (depth_of nodes) element is;
+  made = ap is_some is;
+  normal = tt;
+  modest = array_modest_any nodes built of count element is fits;
+  light = refl;
+}
+
+next_array_by : (nodes : List TypeNode) (built : IsBuilt nodes) (of count : ℕ) (o : Option Layout) → layout_of nodes of ≡ o
+    → IsSomeAnd (option_map (λ (l : Layout). l.size) o) (λ size. size * count ≤ 134217728) → IsNext nodes (Array of count)
+next_array_by nodes built of count None is fits = absurd fits
+next_array_by nodes built of count (Some l) is fits = next_array nodes built of count l is fits
+
+-- the same, from what is asked of the element
+pub next_array_fits : (nodes : List TypeNode) (built : IsBuilt nodes) (of count : ℕ) → IsSomeAnd (size_of nodes of) (λ size. size * count ≤ 134217728)
+    → IsNext nodes (Array of count)
+next_array_fits nodes built of count fits = next_array_by nodes built of count (layout_of nodes of) refl fits
+
+pub next_qualified : (nodes : List TypeNode) (built : IsBuilt nodes) (of bits : ℕ) → of < length nodes → takes_qualifiers (node_at nodes of) ≡ true
+    → IsNext nodes (Qualified of bits)
+next_qualified nodes built of bits below takes =
+    record { below = below; made = tt; normal = takes; modest = λ l is. built.modest of l is; light = refl }

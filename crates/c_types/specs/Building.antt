@@ -14,7 +14,7 @@ same_test false false = true
 -- ---- which node is that of a type
 
 abbrev pub is_pointer : (to : ℕ) → TypeNode → Bool
-is_pointer t (Pointer to) = t == to
+is_pointer t (Pointer to) = nat_eq t to
 is_pointer t Void = false
 is_pointer t (Arithmetic b) = false
 is_pointer t (Array of count) = false
@@ -25,7 +25,7 @@ is_pointer t (Enum tag) = false
 is_pointer t (Qualified of bits) = false
 
 abbrev pub is_array : (of count : ℕ) → TypeNode → Bool
-is_array t n (Array of count) = (t == of) && (n == count)
+is_array t n (Array of count) = nat_eq t of && nat_eq n count
 is_array t n Void = false
 is_array t n (Arithmetic b) = false
 is_array t n (Pointer to) = false
@@ -36,7 +36,7 @@ is_array t n (Enum tag) = false
 is_array t n (Qualified of bits) = false
 
 abbrev pub is_qualified : (of bits : ℕ) → TypeNode → Bool
-is_qualified t b (Qualified of bits) = (t == of) && (b == bits)
+is_qualified t b (Qualified of bits) = nat_eq t of && nat_eq b bits
 is_qualified t b Void = false
 is_qualified t b (Arithmetic c) = false
 is_qualified t b (Pointer to) = false
@@ -48,7 +48,7 @@ is_qualified t b (Enum tag) = false
 
 abbrev pub is_function : (returns : ℕ) → (is_known : Bool) → (parameters : List ℕ) → (is_variadic : Bool) → TypeNode → Bool
 is_function t k ps v (Function returns is_known parameters is_variadic) =
-    (t == returns) && same_test k is_known && pointwise nat_eq ps parameters && same_test v is_variadic
+    nat_eq t returns && (same_test k is_known && (pointwise nat_eq ps parameters && same_test v is_variadic))
 is_function t k ps v Void = false
 is_function t k ps v (Arithmetic b) = false
 is_function t k ps v (Pointer to) = false

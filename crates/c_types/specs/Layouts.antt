@@ -1,6 +1,6 @@
 -- Sizes, alignments, members and shapes of types (C90 6.1.2.5, 6.5.2.1; storage is little-endian, and a bit-field lies in a unit
 -- of 4 bytes, from the lowest free bit upward).
-use Rattle.std.specs.Prelude.{ℕ, zero, suc, ◌+◌, ◌-◌, ◌*◌, ◌/◌, ◌%◌, ◌^◌, ◌==◌, nat_lt, nat_le, ◌&&◌, ◌||◌, max, not, Bool, true, false, if◌then◌else◌, List, [], ◌∷◌, ◌++◌, length, map, slice_index_or, Option, Some, None, unwrap_or}
+use Rattle.std.specs.Prelude.{ℕ, zero, suc, ◌+◌, ◌-◌, ◌*◌, ◌/◌, ◌%◌, ◌^◌, ◌==◌, nat_lt, nat_le, ◌&&◌, ◌||◌, max, not, Bool, true, false, if◌then◌else◌, List, [], ◌∷◌, ◌++◌, length, map, slice_index_or, slice_get, Option, Some, None, unwrap_or}
 use Rattle.std.specs.Option.{option_map}
 use Rattle.std.specs.List.{list_any, list_all, find}
 use Rattle.std.specs.Cmp.Lexicographic.{pointwise}
@@ -221,8 +221,8 @@ members_of_record is_union None = []
 members_of_record is_union (Some parts) = map member_of_place (places_of is_union parts)
 
 abbrev pub members_in : Layouts → TypeNode → List Member
-members_in layouts (Struct r) = members_of_record false (parts_of layouts r.fields)
-members_in layouts (Union r) = members_of_record true (parts_of layouts r.fields)
+members_in layouts (Struct r) = if r.is_complete then members_of_record false (parts_of layouts r.fields) else []
+members_in layouts (Union r) = if r.is_complete then members_of_record true (parts_of layouts r.fields) else []
 members_in layouts Void = []
 members_in layouts (Arithmetic b) = []
 members_in layouts (Pointer to) = []
@@ -246,12 +246,7 @@ abbrev pub bits_behind : (count : ℕ) → Field → ℕ
 bits_behind count before =
     if is_bit_field before && nat_le (before.first + before.count + count) 32 then before.first + before.count else 0
 
-abbrev pub last_in : {A : Type 0} → List A → Option A
-last_in [] = None
-last_in (x ∷ []) = Some x
-last_in (x ∷ (y ∷ xs)) = last_in (y ∷ xs)
-
 -- the first bit of a new one of so many bits behind these fields; in a union, and behind one of width 0, it is bit 0
 abbrev pub next_first : List Field → (is_union : Bool) → (count : ℕ) → (after_zero : Bool) → ℕ
 next_first fields is_union count after_zero =
-    if is_union || after_zero then 0 else elim (last_in fields) as (λ x. ℕ) [ None ↦ 0 | Some before ↦ bits_behind count before ]
+    if is_union || after_zero then 0 else elim (slice_get fields (length fields - 1)) as (λ x. ℕ) [ None ↦ 0 | Some before ↦ bits_behind count before ]

@@ -5,6 +5,7 @@ pub mod Kept
 pub mod Layouts
 pub mod Nodes
 pub mod Numbered
+pub mod Parts
 pub mod Periods
 pub mod Texts
 pub mod Worked

@@ -1,14 +1,16 @@
 //! Nodes with their layouts.
 
-ghost use Rattle.std.specs.Prelude.{◌≡◌, ◌++◌, ◌∷◌, [], ◌<◌, length, slice_get, slice_index_or, OnOk, OnErr, IfOk, true};
+ghost use Rattle.std.specs.Prelude.{◌≡◌, ◌++◌, ◌∷◌, [], ◌<◌, length, slice_get, slice_index_or, OnOk, OnErr, IfOk, Err, Some, None, true};
 ghost use Rattle.std.specs.Option.{option_copied, option_map};
 ghost use Rattle.c_types.specs.Nodes.{node_at, presets, unqualified_in};
-ghost use Rattle.c_types.specs.Layouts.{layout_of, layout_in, members_in, members_of, scalar};
+ghost use Rattle.c_types.specs.Layouts.{layout_of, layout_in, members_in, members_of, members_of_record, parts_of, record_layout, scalar};
+ghost use Rattle.c_types.specs.Parts.{parts_in};
 ghost use Rattle.c_types.specs.Built.{IsBuilt, IsNext, is_unqualified};
 ghost use Rattle.c_types.specs.Kept.{layout_kept};
 
-use crate::layout::Layout;
-use crate::node::{Basic, Member, Members, TypeId, TypeNode};
+use crate::layout::{Layout, LayoutNo};
+use crate::node::{Basic, Field, Member, Members, TypeId, TypeNode};
+use crate::record::{PartOf, lay_out};
 use fsc_base::NoMemory;
 use std::alloc::Global;
 use std::marker::Model;
@@ -176,5 +178,31 @@ impl LaidNodes {
             members,
         })?;
         Ok(())
+    }
+
+    /// Fields with the layouts of their types; Part exactly where one of them has none.
+    fn parts<'a>(&'a self, fields: &'a [Field]) -> Result<Vec<PartOf<'a>>, LayoutNo>
+        ensures found { IfOk result (λ parts. parts_of (layout_of self.now) fields.now ≡ Some (parts_in parts.items)) }
+        ensures part { result ≡ Err LayoutNo.Part → parts_of (layout_of self.now) fields.now ≡ None }
+        ensures built { IsBuilt self.now }
+    {
+        let _ = self.node(0);
+        let mut parts = Vec::new(self.alloc);
+        for field in fields {
+            match self.layout(field.kind) {
+                Some(layout) => parts.push(PartOf { field, layout })?,
+                None => return Err(LayoutNo::Part),
+            }
+        }
+        Ok(parts)
+    }
+
+    /// The layout and the members that a struct or union with these fields has. Part exactly where a field's type has no layout.
+    pub fn lay_out(&self, is_union: bool, fields: &[Field]) -> Result<(Layout, Members), LayoutNo>
+        ensures layout { IfOk result (λ r. option_map (record_layout is_union) (parts_of (layout_of self.now) fields.now) ≡ Some r.0) }
+        ensures members { IfOk result (λ r. members_of_record is_union (parts_of (layout_of self.now) fields.now) ≡ r.1) }
+    {
+        let parts = self.parts(fields)?;
+        lay_out(self.alloc, is_union, parts.as_slice())
     }
 }

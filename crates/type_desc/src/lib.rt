@@ -15,5 +15,6 @@ pub use laws::{
     cells_are_placed, cells_are_set, descriptors_read_back, places_are_apart, shapes_are_found,
     shapes_are_least,
 };
+pub use period::least_period;
 pub use shape::{Shape, place};
 pub use shapes::Shapes;
