@@ -1,0 +1,17 @@
+pub mod Calls
+pub mod Faults
+pub mod FaultLaws
+pub mod FunctionRows
+pub mod Heights
+pub mod Lengths
+pub mod Machine
+pub mod OpRows
+pub mod Operations
+pub mod Primitives
+pub mod Programs
+pub mod Rows
+pub mod RunLaws
+pub mod States
+pub mod TypeRows
+pub mod UnitRows
+pub mod Views

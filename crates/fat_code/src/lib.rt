@@ -1,0 +1,17 @@
+//! Fat code: units of operations on words with bases, the faults that a unit can have, programs of linked units, and what each
+//! operation does in a run. The definitions stand in `specs/`.
+#![tactic(auto)]
+
+mod fault;
+mod laws;
+mod op;
+mod program;
+mod unit;
+
+pub use fault::{UnitFault, Version};
+pub use laws::{code_has_heights, faults_are_told, programs_are_run};
+pub use op::Op;
+pub use program::{BlockList, BlockLists, FatProgram, ProgramParts};
+pub use unit::{
+    FatEntry, FatFunction, FatObject, FatParts, FatPiece, FatSymbol, FatUnit, FatValue,
+};
