@@ -1,3 +1,4 @@
 mod Codes
 mod Counts
 mod Planned
+mod PointerCodes

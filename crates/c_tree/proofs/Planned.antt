@@ -87,6 +87,15 @@ unfolding plan_of
 planned_compound locals kind op access a b ha hb = fold-roll-TExpr Plan (plan_step locals) (record { form = form.Compound a op b access; kind = kind; place = first_line })
     ∙ ap₂ (λ (x y : Plan). plan_form locals kind (form.Compound x op y access)) ha hb
 
+pub planned_address : (locals : Locals) (kind : ℕ) (a : TExpr) {pa : Plan} → plan_of locals a ≡ pa → plan_of locals (expression kind (form.AddressOf a)) ≡ plan_form locals kind (form.AddressOf pa)
+unfolding plan_of
+planned_address locals kind a ha = fold-roll-TExpr Plan (plan_step locals) (record { form = form.AddressOf a; kind = kind; place = first_line }) ∙ ap (λ (x : Plan). plan_form locals kind (form.AddressOf x)) ha
+
+pub planned_add : (locals : Locals) (kind : ℕ) (pointer : Side) (size : ℕ) (a : TExpr) {pa : Plan} (b : TExpr) {pb : Plan} → plan_of locals a ≡ pa → plan_of locals b ≡ pb → plan_of locals (expression kind (form.PointerAdd a b pointer size)) ≡ plan_form locals kind (form.PointerAdd pa pb pointer size)
+unfolding plan_of
+planned_add locals kind pointer size a b ha hb = fold-roll-TExpr Plan (plan_step locals) (record { form = form.PointerAdd a b pointer size; kind = kind; place = first_line })
+    ∙ ap₂ (λ (x y : Plan). plan_form locals kind (form.PointerAdd x y pointer size)) ha hb
+
 pub planned_none : (locals : Locals) → map (plan_of locals) [] ≡ []
 planned_none locals = refl
 

@@ -32,7 +32,7 @@ abbrev pub is_there : Option TExpr → Bool
 is_there None = false
 is_there (Some e) = true
 
--- ---- initialisers
+-- ---- initialisers (C90 6.5.7)
 
 abbrev pub width_of : (size : ℕ) → Width
 width_of size = if size == 1 then width.One else (if size == 2 then width.Two else width.Four)
@@ -61,7 +61,7 @@ initialised locals (AtSlot slot) kind size is_aggregate pieces = pieces_in_slot 
 initialised locals (AtEntry entry) kind size is_aggregate pieces =
     join (if is_aggregate then one (Clears entry size) else done) (pieces_in_entry locals entry kind pieces)
 
--- ---- statements
+-- ---- statements (C90 6.6)
 
 abbrev pub statement_step : Locals → TStatement-F Todo → Todo
 statement_step locals Empty = one Stays
@@ -82,7 +82,7 @@ statement_step locals (Labelled l s) = next (Here l) s
 statement_step locals (Goto l) = one (Goes l)
 statement_step locals Break = one Breaks
 statement_step locals Continue = one Continues
--- without a value it gives 0
+-- without a value it gives 0 (C90 6.6.6.4)
 statement_step locals Return = next (Gives 0) (one Returns)
 statement_step locals (ReturnValue e) = join (wanted locals e) (one Returns)
 statement_step locals (ReturnRecord e size) = join (wanted locals e) (next (CopiesOut size) (one Returns))

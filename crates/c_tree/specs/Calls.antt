@@ -1,4 +1,4 @@
--- Calls: how an activation begins and ends.
+-- Calls: how an activation begins and ends (C90 6.3.2.2, 6.6.6.4).
 use Rattle.std.specs.Prelude.{ℕ, zero, suc, ◌+◌, ◌==◌, nat_le, if◌then◌else◌, List, [], ◌∷◌, ◌++◌, length, take, drop, reverse, Option, Some, None}
 use Rattle.fsc_base.specs.declared.word.Word.{Word}
 use Rattle.fsc_base.specs.declared.end.End.TheVariants as end

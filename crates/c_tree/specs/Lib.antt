@@ -20,3 +20,4 @@ pub mod Watching
 pub mod Worked
 pub mod WorkedCalls
 pub mod WorkedControl
+pub mod WorkedPointers

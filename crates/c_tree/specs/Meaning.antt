@@ -39,13 +39,13 @@ initialises entry kind offset (Bits first count is_signed) word rest words s =
     reads_unit kind offset first count (place_in s entry offset) word None rest words s
 
 unfoldable pub does : Program → Row → Todo → List Word → State → Action State
--- ---- lvalues and designators
+-- ---- lvalues and designators (C90 6.2.2.1, 6.3.1, 6.3.2.1, 6.3.2.3)
 does p (Names symbol) rest words s = steps s rest (symbol_address p s symbol ∷ words)
 does p (Locates entry) rest words s = steps s rest (entry_address s entry ∷ words)
 does p Stays rest words s = steps s rest words
 does p (Moves offset) rest (at ∷ words) s = steps s rest (sum_of at (plain offset) ∷ words)
 does p (Indexes pointer size) rest (right ∷ (left ∷ words)) s = steps s rest (indexed pointer size left right ∷ words)
--- ---- values
+-- ---- values (C90 6.3.3 to 6.3.15, 6.3.17)
 does p (Gives n) rest words s = steps s rest (plain n ∷ words)
 does p (Reads (InSlot slot) access) rest words s = steps s rest (slot_of s slot ∷ words)
 does p (Reads (InMemory kind member) access) rest (at ∷ words) s = reads access at rest words s
@@ -60,7 +60,7 @@ does p (OrElse b) rest (word ∷ words) s = if is_true word then steps s rest (p
 does p Truth rest (word ∷ words) s = steps s rest (truth (is_true word) ∷ words)
 does p (Chooses a b) rest (word ∷ words) s = steps s (join (chosen word a b) rest) words
 does p Drops rest (word ∷ words) s = steps s rest words
--- ---- assignments
+-- ---- assignments (C90 6.3.16, 6.3.2.4, 6.3.3.1)
 does p (Stores (InSlot slot) access) rest (word ∷ words) s = steps (with_slot s slot word) rest (word ∷ words)
 does p (Stores (InMemory kind member) access) rest (word ∷ (at ∷ words)) s = stores kind member access at word None rest words s
 does p (Writes kind member first count word gives) rest (unit ∷ (at ∷ words)) s = writes_unit first count unit at word gives rest words s
@@ -69,11 +69,11 @@ does p (Peeks (InSlot slot) access) rest words s = steps s rest (slot_of s slot 
 does p (Peeks (InMemory kind member) access) rest (at ∷ words) s = reads access at rest (at ∷ words) s
 does p (Combines spot op access) rest (right ∷ (left ∷ words)) s = combines spot access None (combined op left right) rest words s
 does p (Increments spot op is_prefix access) rest (left ∷ words) s = increments spot op is_prefix access left rest words s
--- ---- calls
+-- ---- calls (C90 6.3.2.2)
 does p (Receives entry below) rest words s = steps s rest (take below words ++ (entry_address s entry ∷ drop below words))
 does p (Calls arguments) rest words s = calls_below p arguments rest words s
 does p (Performs primitive) rest words s = performs primitive rest words s
--- ---- entry and return
+-- ---- entry and return (C90 6.6.6.4, 6.7.1)
 does p (MakesExtra extra) rest words s = makes (4 * length extra) s.heap (with_extra s rest extra)
 does p (Makes size kind) rest words s = makes size s.heap (with_entry s rest)
 does p (Fills slot entry kind width) rest words s =
@@ -81,12 +81,12 @@ does p (Fills slot entry kind width) rest words s =
 does p (FillsRecord slot entry size) rest words s = copies (entry_address s entry) (slot_of s slot) size rest words s
 does p (CopiesOut size) rest (from ∷ words) s = copies (slot_of s 0) from size rest (slot_of s 0 ∷ words) s
 does p Returns rest (word ∷ words) s = returns word (next Returns rest) s s.frame.extra s.frame.blocks s.callers
--- ---- initialisers
+-- ---- initialisers (C90 6.5.7)
 does p (Sets slot) rest (word ∷ words) s = steps (with_slot s slot word) rest words
 does p (Clears entry size) rest words s = after_write (words_of size) s rest words (clear_of s.heap (entry_address s entry) size)
 does p (Initialises entry kind offset access) rest (word ∷ words) s = initialises entry kind offset access word rest words s
 does p (CopiesIn entry offset size) rest (from ∷ words) s = copies (place_in s entry offset) from size rest words s
--- ---- control
+-- ---- control (C90 6.6.1 to 6.6.6.3)
 does p (Branches a b) rest (word ∷ words) s = steps s (join (chosen word a b) rest) words
 does p (Loops true before test body) rest words s = steps s (join test (next (Tests true before test body) rest)) words
 does p (Loops false before test body) rest words s = steps s (join body (next (Around false before test body) rest)) words

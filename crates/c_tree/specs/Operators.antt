@@ -19,7 +19,7 @@ abbrev pub after_operator : State → Todo → List Word → Option Word → Act
 after_operator s rest words (Some word) = steps s rest (word ∷ words)
 after_operator s rest words None = Stops end.Divide
 
--- ---- pointers
+-- ---- pointers (C90 6.3.6)
 
 -- a pointer plus an integer: the integer is multiplied by the size of an element first
 abbrev pub pointer_plus : (size : ℕ) → (pointer index : Word) → Word
@@ -36,7 +36,7 @@ indexed Right size left right = pointer_plus size right left
 abbrev pub pointer_difference : (size : ℕ) → (left right : Word) → Option Word
 pointer_difference size left right = quotient_of (difference_of left right) (plain size)
 
--- ---- compound assignment
+-- ---- compound assignment (C90 6.3.16.2)
 
 abbrev pub combined : CompoundOp → (left right : Word) → Option Word
 combined (Plain op) left right = operated op left right
@@ -53,7 +53,7 @@ combines (InMemory kind member) access gives (Some new) rest (at ∷ words) s =
 -- never: there is an address
 combines (InMemory kind member) access gives (Some new) rest [] s = steps s rest []
 
--- ++l gives the new value, l++ the old one
+-- ++l gives the new value, l++ the old one (C90 6.3.3.1, 6.3.2.4)
 abbrev pub increments : Spot → CompoundOp → (is_prefix : Bool) → Access → (left : Word) → Todo → List Word → State → Action State
 increments spot op true access left rest words s = combines spot access None (combined op left (plain 1)) rest words s
 increments spot op false access left rest words s = combines spot access (Some left) (combined op left (plain 1)) rest words s

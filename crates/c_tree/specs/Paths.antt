@@ -57,15 +57,15 @@ abbrev mutual
   seek_in test enters (Selects cases body) rest = if enters then then_do (seek test enters body) (next EndsSwitch rest) else None
   seek_in test enters _ rest = None
 
--- goto: from the label on, in the function's rows
+-- goto (C90 6.6.6.1): from the label on, in the function's rows
 abbrev pub path_to_label : ℕ → (code : Todo) → Option Todo
 path_to_label l code = seek (is_label l) true code
 
--- switch: from the case or the default on, in its body, and then its end
+-- switch (C90 6.6.4.2): from the case or the default on, in its body, and then its end
 abbrev pub path_in_switch : (Row → Bool) → (body rest : Todo) → Option Todo
 path_in_switch test body rest = then_do (seek test false body) (next EndsSwitch rest)
 
--- break: behind the loop or switch around
+-- break (C90 6.6.6.3): behind the loop or switch around
 abbrev pub broken_out : Todo → Todo
 broken_out done = done
 broken_out (next (Around is_tested before test body) rest) = rest
@@ -73,7 +73,7 @@ broken_out (next (Again body test) rest) = rest
 broken_out (next EndsSwitch rest) = rest
 broken_out (next row rest) = broken_out rest
 
--- continue: from the end of the turn on
+-- continue (C90 6.6.6.2): from the end of the turn on
 abbrev pub continued : Todo → Todo
 continued done = done
 continued (next (Around is_tested before test body) rest) = next (Around is_tested before test body) rest

@@ -66,14 +66,14 @@ conversion_row conversion.Keep = Stays
 conversion_row (conversion.Narrow width is_signed) = Narrows width is_signed
 conversion_row (conversion.Decide kind) = Casts kind
 
--- unary + changes nothing
+-- unary + changes nothing (C90 6.3.3.3)
 abbrev pub unary_row : UnaryOperator → Row
 unary_row Plus = Stays
 unary_row Minus = Turns Minus
 unary_row Complement = Turns Complement
 unary_row Not = Turns Not
 
--- the parts of a comma expression: the value of each but the last is dropped
+-- the parts of a comma expression (C90 6.3.17): the value of each but the last is dropped
 abbrev pub listed : List Todo → Todo
 listed [] = done
 listed (todo ∷ []) = todo
@@ -86,18 +86,18 @@ received entry arguments =
     join (join_all (take 3 arguments)) (next (Receives entry (length (take 3 arguments))) (join_all (drop 3 arguments)))
 
 abbrev pub plan_form : Locals → (kind : ℕ) → Form Plan → Plan
--- lvalues and designators: they give an address, and a slot gives nothing
+-- lvalues and designators (C90 6.2.2.1, 6.3.1, 6.3.2.1, 6.3.2.3): they give an address, and a slot gives nothing
 plan_form locals kind (form.Static symbol) = plain kind (one (Names symbol))
 plan_form locals kind (form.Local i) = local_plan (locals.place i) kind
 plan_form locals kind (form.Deref e) = plain kind (after e Stays)
 plan_form locals kind (form.Index base index pointer size) = plain kind (after_both base index (Indexes pointer size))
 plan_form locals kind (form.Dot e m) = part (after e (Moves m.offset)) e.kind (e.member + m.offset)
 plan_form locals kind (form.Arrow e m) = part (after e (Moves m.offset)) m.record m.offset
--- conversions
+-- conversions (C90 6.2, 6.3.4)
 plan_form locals kind (form.Value e access) = plain kind (after e (Reads (spot_of e) access))
 plan_form locals kind (form.Decay e) = plain kind (after e Stays)
 plan_form locals kind (form.Convert e c) = plain kind (after e (conversion_row c))
--- values
+-- values (C90 6.3.3 to 6.3.15, 6.3.17)
 plan_form locals kind (form.Number n) = plain kind (one (Gives n))
 plan_form locals kind (form.AddressOf e) = plain kind (after e Stays)
 plan_form locals kind (form.Unary op e) = plain kind (after e (unary_row op))
@@ -109,14 +109,14 @@ plan_form locals kind (form.Both a b) = plain kind (after a (AndThen b.todo))
 plan_form locals kind (form.Either a b) = plain kind (after a (OrElse b.todo))
 plan_form locals kind (form.Choose c a b) = plain kind (after c (Chooses a.todo b.todo))
 plan_form locals kind (form.Comma parts) = plain kind (listed (todos parts))
--- assignments: the address comes first
+-- assignments (C90 6.3.16, 6.3.2.4, 6.3.3.1): the address comes first
 plan_form locals kind (form.Assign target v access) = plain kind (after_both target v (Stores (spot_of target) access))
 plan_form locals kind (form.AssignRecord target v size) = plain kind (after_both target v (Copies size))
 plan_form locals kind (form.Compound target op v access) =
     plain kind (join target.todo (next (Peeks (spot_of target) access) (after v (Combines (spot_of target) op access))))
 plan_form locals kind (form.Step target op is_prefix access) =
     plain kind (join target.todo (next (Peeks (spot_of target) access) (one (Increments (spot_of target) op is_prefix access))))
--- calls: the called expression, then the arguments
+-- calls (C90 6.3.2.2): the called expression, then the arguments
 plan_form locals kind (form.Call f arguments) = plain kind (join f.todo (after_all arguments (Calls (length arguments))))
 plan_form locals kind (form.CallRecord f arguments number) =
     plain kind (join f.todo (join (received (locals.call number) (todos arguments)) (one (Calls (length arguments + 1)))))

@@ -56,7 +56,7 @@ basic_word basic.Unsigned word = word
 basic_word basic.Long word = word
 basic_word basic.UnsignedLong word = word
 
--- a parameter takes its word converted to its type
+-- a parameter takes its word converted to its type (C90 6.3.2.2)
 abbrev pub converted_to : TypeNode → Word → Word
 converted_to (node.Basic b) word = basic_word b word
 converted_to _ word = word
@@ -136,7 +136,7 @@ slot_words nodes (suc before) f (word ∷ words) = word ∷ local_words nodes f 
 
 -- ---- functions
 
--- what a function does behind its entry; falling off its end gives 0
+-- what a function does behind its entry; falling off its end gives 0 (C90 6.6.6.4)
 abbrev pub body_rows : (before : ℕ) → TypedFunction → Todo
 body_rows before f = join (rows_of (locals_of before f) f.body) (next (Gives 0) (one Returns))
 
@@ -211,7 +211,7 @@ program_of units link = program_with (callees_from 0 units) units link
 abbrev pub first_frame : Frame
 first_frame = record { unit = 0; code = done; slots = []; blocks = []; extra = 0 }
 
--- main is called without arguments, and the program exits with the word that it gives
+-- main (C90 5.1.2.2.1) is called without arguments, and the program exits with the word that it gives
 unfoldable pub start_of : LinkProgram → State
 start_of link = record {
   todo = next (Calls 0) (one (Performs Exit));

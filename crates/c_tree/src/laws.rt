@@ -2,6 +2,7 @@
 
 ghost use Rattle.c_tree.specs.Worked.{SevenRows, SevenEnds, SevenGoesOn, PastEndRows, PastEndEnds, PastEndGoesOn, PastEndWatch};
 ghost use Rattle.c_tree.specs.WorkedControl.{ControlRows, ControlEnds, ControlGoesOn};
+ghost use Rattle.c_tree.specs.WorkedPointers.{NumbersRows, NumbersEnd, NumbersGoOn, NumbersWatch, BytesRows, BytesEnd, BytesGoOn, BytesWatch};
 ghost use Rattle.c_tree.specs.WorkedCalls.{StructsRows, StructsEnd, StructsGoOn, VariadicRows, VariadicEnds, VariadicGoesOn};
 
 /// How `int main(void){return 7;}` runs, and a store past the end of an array.
@@ -30,4 +31,16 @@ pub fn worked_calls()
     ensures variadic_rows { VariadicRows }
     ensures variadic_ends { VariadicEnds }
     ensures variadic_goes_on { VariadicGoesOn }
+{}
+
+/// How a pointer is kept by a number, and lost by a copy of its bytes.
+pub fn worked_pointers()
+    ensures numbers_rows { NumbersRows }
+    ensures numbers_end { NumbersEnd }
+    ensures numbers_go_on { NumbersGoOn }
+    ensures numbers_watch { NumbersWatch }
+    ensures bytes_rows { BytesRows }
+    ensures bytes_end { BytesEnd }
+    ensures bytes_go_on { BytesGoOn }
+    ensures bytes_watch { BytesWatch }
 {}

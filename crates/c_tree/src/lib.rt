@@ -14,7 +14,7 @@ pub use c_ops::{Definition, Linkage, Operator, Primitive, UnaryOperator};
 pub use constant::Known;
 pub use counting::nodes;
 pub use expression::{Access, CompoundOp, Conversion, Form, Member, Side, Symbol, TExpr};
-pub use laws::{worked_calls, worked_control, worked_programs};
+pub use laws::{worked_calls, worked_control, worked_pointers, worked_programs};
 pub use statement::{Initial, Piece, TStatement};
 pub use unit::{Entry, EntryOf, TypedFunction, TypedObject, TypedSymbol, TypedUnit};
 pub use weighing::bulk;
