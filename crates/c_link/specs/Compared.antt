@@ -1,13 +1,17 @@
 -- The rule of linking on types, and all rules together.
-use Rattle.std.specs.Prelude.{◌&&◌, not, Bool, false, IsTrue, List}
+use Rattle.std.specs.Prelude.{ℕ, ◌⊎◌, ◌&&◌, not, Bool, false, IsTrue, List}
 use Rattle.std.specs.List.{list_any}
+use Rattle.fsc_base.specs.declared.rule.Rule.TheVariants.{M01}
 use Rattle.c_types.specs.declared.node.TypeNode.{TypeNode}
 use Rattle.c_types.specs.declared.node.TypeNode.TheVariants as node
+use Rattle.c_types.specs.Agreeing.{Agrees}
 use Rattle.c_types.specs.Nodes.{node_at, unqualified}
+use Rattle.c_types.specs.Texts.{text_of}
+use Rattle.c_link.specs.declared.fault.LinkFault.{LinkFault}
 use Rattle.c_link.specs.Views.{LinkView}
 use Rattle.c_link.specs.Names.{defines_function}
-use Rattle.c_link.specs.Library.{added_units}
-use Rattle.c_link.specs.Broken.{Declared}
+use Rattle.c_link.specs.Library.{added_units, all_units}
+use Rattle.c_link.specs.Broken.{Declared, InOrder, AreOfName, BrokenProgram, fault}
 
 -- ---- declarations that are compared
 
@@ -26,3 +30,21 @@ is_exempt users library one = lacks_prototype one && list_any (defines_function 
 
 abbrev pub AreCompared : (users library : List LinkView) → (first second : Declared) → Type 0
 AreCompared users library first second = IsTrue (not (is_exempt users library first)) × IsTrue (not (is_exempt users library second))
+
+-- ---- the rules
+
+abbrev pub AreCompatible : (first second : Declared) → Type 0
+AreCompatible first second = Agrees first.types first.symbol.kind second.types second.symbol.kind
+
+abbrev pub type_text : Declared → List ℕ
+type_text one = text_of one.types one.symbol.kind
+
+-- M01: two declarations of a name that are compared have incompatible types. The texts are theirs, that of the earlier one first.
+pub data BrokenTypes (users library : List LinkView) : LinkFault → Type 0 where
+  incompatible : {name : List ℕ} {first second : Declared} → InOrder (all_units users library) first second → AreOfName name first second
+      → AreCompared users library first second → (AreCompatible first second → ⊥)
+      → BrokenTypes users library (fault M01 name (type_text first) (type_text second))
+
+-- a rule of linking is broken so
+abbrev pub BrokenLink : (users library : List LinkView) → LinkFault → Type 0
+BrokenLink users library broken = BrokenTypes users library broken ⊎ BrokenProgram (all_units users library) broken

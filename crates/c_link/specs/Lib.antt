@@ -6,4 +6,5 @@ pub mod Library
 pub mod Linked
 pub mod Names
 pub mod Start
+pub mod TypeLaws
 pub mod Views

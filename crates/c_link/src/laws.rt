@@ -1,6 +1,7 @@
 //! The laws of linking.
 
 ghost use Rattle.c_link.specs.Laws.{LinksTwoUnits, AddsWanted, BreaksEmpty, BreaksUndefined, BreaksTwice, BreaksNodes};
+ghost use Rattle.c_link.specs.TypeLaws.{BreaksTypes, AgreesWithItself, BitsDiffer, QualifiersDiffer, TextsOfTypes};
 
 /// Two units, the second with a function and an object that the first names: how their blocks are numbered, and what memory
 /// holds at the start. A unit of the library is added where a user's unit uses what it defines, and none defines that.
@@ -16,4 +17,14 @@ pub fn faults_are_told()
     ensures undefined { BreaksUndefined }
     ensures twice { BreaksTwice }
     ensures nodes { BreaksNodes }
+{}
+
+/// An int and a char under one name break M01. Structs that refer to themselves agree whatever their tags; bit-fields of other
+/// widths and other qualifiers don't. And the texts of five types.
+pub fn types_are_compared()
+    ensures told { BreaksTypes }
+    ensures agree { AgreesWithItself }
+    ensures bits { BitsDiffer }
+    ensures qualifiers { QualifiersDiffer }
+    ensures texts { TextsOfTypes }
 {}

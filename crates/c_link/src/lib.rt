@@ -6,4 +6,4 @@ mod fault;
 mod laws;
 
 pub use fault::LinkFault;
-pub use laws::{faults_are_told, units_are_linked};
+pub use laws::{faults_are_told, types_are_compared, units_are_linked};

@@ -1,3 +1,4 @@
+pub mod Agreeing
 pub mod Building
 pub mod Built
 pub mod Kept
@@ -5,4 +6,5 @@ pub mod Layouts
 pub mod Nodes
 pub mod Numbered
 pub mod Periods
+pub mod Texts
 pub mod Worked

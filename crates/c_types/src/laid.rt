@@ -1,6 +1,6 @@
 //! Nodes with their layouts.
 
-ghost use Rattle.std.specs.Prelude.{◌≡◌, ◌++◌, ◌∷◌, [], ◌<◌, length, slice_index_or, OnOk, OnErr, IfOk, true};
+ghost use Rattle.std.specs.Prelude.{◌≡◌, ◌++◌, ◌∷◌, [], ◌<◌, length, slice_get, slice_index_or, OnOk, OnErr, IfOk, true};
 ghost use Rattle.std.specs.Option.{option_copied, option_map};
 ghost use Rattle.c_types.specs.Nodes.{node_at, presets, unqualified_in};
 ghost use Rattle.c_types.specs.Layouts.{layout_of, layout_in, members_in, members_of, scalar};
@@ -82,6 +82,16 @@ impl LaidNodes {
     {
         let layout = Layout::scalar(self.alloc, basic.size())?;
         self.push(TypeNode::Basic(basic), Some(layout))
+    }
+
+    /// The node at a place of the table.
+    pub fn get(&self, index: usize) -> Option<&TypeNode>
+        ensures { option_copied result ≡ slice_get self.now index }
+    {
+        match self.kept.get(index) {
+            Some(kept) => Some(&kept.node),
+            None => None,
+        }
     }
 
     /// How many nodes there are.

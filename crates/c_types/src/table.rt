@@ -1,6 +1,6 @@
 //! A unit's types.
 
-ghost use Rattle.std.specs.Prelude.{◌≡◌, length, IfOk};
+ghost use Rattle.std.specs.Prelude.{◌≡◌, length, slice_get, IfOk};
 ghost use Rattle.std.specs.Option.{option_copied};
 ghost use Rattle.c_types.specs.Built.{IsBuilt};
 ghost use Rattle.c_types.specs.Layouts.{layout_of, size_of, align_of};
@@ -33,6 +33,13 @@ impl TypeTable {
         ensures built { IsBuilt self.now }
     {
         self.nodes.node(id)
+    }
+
+    /// The node at a place of the table.
+    pub fn get(&self, index: usize) -> Option<&TypeNode>
+        ensures { option_copied result ≡ slice_get self.now index }
+    {
+        self.nodes.get(index)
     }
 
     /// How many nodes there are.

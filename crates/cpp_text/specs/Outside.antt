@@ -1,50 +1,33 @@
 -- What a call may answer by what the files did in it.
-use Rattle.std.specs.Prelude.{◌≡◌, ◌⊎◌, ℕ, List, Option, None, IsSome}
+use Rattle.std.specs.Prelude.{◌≡◌, ◌⊎◌, ℕ, List, None}
 use Rattle.fsc_base.specs.declared.place.Broken.{Broken}
 use Rattle.fsc_base.specs.declared.rule.Rule.TheVariants.{K40, L02}
-use Rattle.fsc_outside.specs.Counts.{Rose}
-use Rattle.fsc_outside.specs.FileMap.{FileMap, Holds}
+use Rattle.fsc_outside.specs.Calls.{FileCounts, Fails, Misses}
+use Rattle.fsc_outside.specs.FileMap.{Holds}
 use Rattle.cpp_text.specs.Causes.{OfText}
 use Rattle.cpp_text.specs.declared.refusal.Stop.{Stop}
 use Rattle.cpp_text.specs.declared.refusal.Stop.TheVariants as stops
 use Rattle.cpp_text.specs.declared.refusal.PpNo.{PpNo}
 use Rattle.cpp_text.specs.declared.refusal.PpNo.TheVariants as refusals
 
--- What the files told when the call began, the name that they blame when it ends, and their counts before and after.
-pub record Outside : Type 0 where
-  pub told : Option FileMap
-  pub blamed : List ℕ
-  pub faults_before : ℕ
-  pub faults_after : ℕ
-  pub absences_before : ℕ
-  pub absences_after : ℕ
-
--- a file could not be read: the count of faults rose, and where the files are told, the name is the blamed one
-abbrev pub Fails : List ℕ → Outside → Type 0
-Fails name outside = Rose outside.faults_before outside.faults_after × (IsSome outside.told → outside.blamed ≡ name)
-
--- some file was absent
-abbrev pub Misses : Outside → Type 0
-Misses outside = Rose outside.absences_before outside.absences_after
-
 -- a rule is broken: one on the text, on the depth of includes, or on a file that is absent
-abbrev pub Breaks : Broken → Outside → Type 0
+abbrev pub Breaks : Broken → FileCounts → Type 0
 Breaks broken outside = OfText broken.rule ⊎ ((broken.rule ≡ L02) ⊎ ((broken.rule ≡ K40) × Misses outside))
 
 -- what stops a search for a file
-abbrev pub StopsSearch : Stop → Outside → Type 0
+abbrev pub StopsSearch : Stop → FileCounts → Type 0
 StopsSearch (stops.Broken broken) outside = ⊥
 StopsSearch (stops.FileFault name) outside = Fails name outside
 StopsSearch stops.NoMemory outside = Unit {0}
 
 -- what stops a line
-abbrev pub StopsLine : Stop → Outside → Type 0
+abbrev pub StopsLine : Stop → FileCounts → Type 0
 StopsLine (stops.Broken broken) outside = Breaks broken outside
 StopsLine (stops.FileFault name) outside = Fails name outside
 StopsLine stops.NoMemory outside = Unit {0}
 
 -- why the unit with this file of its own is refused
-abbrev pub RefusesUnit : PpNo → List ℕ → Outside → Type 0
+abbrev pub RefusesUnit : PpNo → List ℕ → FileCounts → Type 0
 RefusesUnit (refusals.Broken broken file) name outside = Breaks broken outside
 RefusesUnit refusals.Missing name outside = Misses outside × Holds outside.told name None
 RefusesUnit (refusals.FileFault file) name outside = Fails file outside

@@ -3,6 +3,7 @@
 ghost use Rattle.std.specs.Prelude.{◌≡◌, ◌+◌, ◌^◌, ◌<◌, ◌≤◌, [], ◌∷◌, ◌++◌, length, vec_len, IfOk, IfErr, OnOk, IsTrue};
 ghost use Rattle.cpp_expand.specs.Causes.{Refuses};
 ghost use Rattle.cpp_text.specs.Causes.{OfText};
+ghost use Rattle.fsc_outside.specs.Calls.{counts_of};
 ghost use Rattle.cpp_text.specs.Outside.{StopsLine};
 ghost use Rattle.cpp_text.specs.Progress.{left_of};
 
@@ -49,14 +50,7 @@ impl Reading {
     /// Reads all lines.
     #[tactic(auto, using(crate::proofs::Earlier::line_earlier))]
     pub fn run<F: Files>(&mut self, files: &mut F) -> Result<(), Stop>
-        ensures stopped { IfErr result (λ stop. StopsLine stop (record {
-          told = F.contents files.old;
-          blamed = F.blamed files.new;
-          faults_before = F.fault_count files.old;
-          faults_after = F.fault_count files.new;
-          absences_before = F.absence_count files.old;
-          absences_after = F.absence_count files.new;
-        })) }
+        ensures stopped { IfErr result (λ stop. StopsLine stop (counts_of F.Files files.old files.new)) }
         ensures kept { F.contents files.new ≡ F.contents files.old }
         ensures faults_counted { F.fault_count files.old ≤ F.fault_count files.new }
         ensures absences_counted { F.absence_count files.old ≤ F.absence_count files.new }
@@ -93,14 +87,7 @@ impl Reading {
     #[tactic(auto, using(crate::proofs::Earlier::line_of_refused))]
     fn step<F: Files>(&mut self, files: &mut F) -> Result<bool, Stop>
         ensures shorter { IfOk result (λ goes_on. IsTrue goes_on → left_of self.new.including.items self.new.current < left_of self.old.including.items self.old.current) }
-        ensures stopped { IfErr result (λ stop. StopsLine stop (record {
-          told = F.contents files.old;
-          blamed = F.blamed files.new;
-          faults_before = F.fault_count files.old;
-          faults_after = F.fault_count files.new;
-          absences_before = F.absence_count files.old;
-          absences_after = F.absence_count files.new;
-        })) }
+        ensures stopped { IfErr result (λ stop. StopsLine stop (counts_of F.Files files.old files.new)) }
         ensures kept { F.contents files.new ≡ F.contents files.old }
         ensures faults_counted { F.fault_count files.old ≤ F.fault_count files.new }
         ensures absences_counted { F.absence_count files.old ≤ F.absence_count files.new }
@@ -143,14 +130,7 @@ impl Reading {
         ensures outer { OnOk result (self.new.including.items ≡ self.old.including.items ++ self.old.current ∷ []) }
         ensures depth { OnOk result (self.new.current.depth ≡ self.old.current.depth + 1) }
         ensures bounded { OnOk result (vec_len self.new.current.rest < 2 ^ 64) }
-        ensures stopped { IfErr result (λ stop. StopsLine stop (record {
-          told = F.contents files.old;
-          blamed = F.blamed files.new;
-          faults_before = F.fault_count files.old;
-          faults_after = F.fault_count files.new;
-          absences_before = F.absence_count files.old;
-          absences_after = F.absence_count files.new;
-        })) }
+        ensures stopped { IfErr result (λ stop. StopsLine stop (counts_of F.Files files.old files.new)) }
         ensures kept { F.contents files.new ≡ F.contents files.old }
         ensures faults_counted { F.fault_count files.old ≤ F.fault_count files.new }
         ensures absences_counted { F.absence_count files.old ≤ F.absence_count files.new }

@@ -2,6 +2,7 @@
 
 ghost use Rattle.std.specs.Prelude.{◌≡◌, ◌≤◌, MatchOption, IfOk, IfErr};
 ghost use Rattle.fsc_outside.specs.Counts.{Rose};
+ghost use Rattle.fsc_outside.specs.Calls.{counts_of};
 ghost use Rattle.cpp_text.specs.Outside.{StopsSearch};
 
 use crate::header_name::{Form, HeaderName};
@@ -23,14 +24,7 @@ pub enum Found {
 /// The bytes of a file, or None where there is none.
 fn read<F: Files>(alloc: Global, files: &mut F, name: &Name) -> Result<Option<Bytes>, Stop>
     ensures absent { IfOk result (λ found. MatchOption found (Rose (F.absence_count files.old) (F.absence_count files.new)) (λ _. Unit {0})) }
-    ensures stopped { IfErr result (λ stop. StopsSearch stop (record {
-      told = F.contents files.old;
-      blamed = F.blamed files.new;
-      faults_before = F.fault_count files.old;
-      faults_after = F.fault_count files.new;
-      absences_before = F.absence_count files.old;
-      absences_after = F.absence_count files.new;
-    })) }
+    ensures stopped { IfErr result (λ stop. StopsSearch stop (counts_of F.Files files.old files.new)) }
     ensures kept { F.contents files.new ≡ F.contents files.old }
     ensures faults_counted { F.fault_count files.old ≤ F.fault_count files.new }
     ensures absences_counted { F.absence_count files.old ≤ F.absence_count files.new }
@@ -58,14 +52,7 @@ fn beside(alloc: Global, including: &Name, name: &Name) -> Result<Option<Name>, 
 /// The file of that name.
 fn file<F: Files>(alloc: Global, files: &mut F, name: &Name) -> Result<Option<Found>, Stop>
     ensures absent { IfOk result (λ found. MatchOption found (Rose (F.absence_count files.old) (F.absence_count files.new)) (λ _. Unit {0})) }
-    ensures stopped { IfErr result (λ stop. StopsSearch stop (record {
-      told = F.contents files.old;
-      blamed = F.blamed files.new;
-      faults_before = F.fault_count files.old;
-      faults_after = F.fault_count files.new;
-      absences_before = F.absence_count files.old;
-      absences_after = F.absence_count files.new;
-    })) }
+    ensures stopped { IfErr result (λ stop. StopsSearch stop (counts_of F.Files files.old files.new)) }
     ensures kept { F.contents files.new ≡ F.contents files.old }
     ensures faults_counted { F.fault_count files.old ≤ F.fault_count files.new }
     ensures absences_counted { F.absence_count files.old ≤ F.absence_count files.new }
@@ -83,14 +70,7 @@ fn file_beside<F: Files>(
     including: &Name,
     name: &Name,
 ) -> Result<Option<Found>, Stop>
-    ensures stopped { IfErr result (λ stop. StopsSearch stop (record {
-      told = F.contents files.old;
-      blamed = F.blamed files.new;
-      faults_before = F.fault_count files.old;
-      faults_after = F.fault_count files.new;
-      absences_before = F.absence_count files.old;
-      absences_after = F.absence_count files.new;
-    })) }
+    ensures stopped { IfErr result (λ stop. StopsSearch stop (counts_of F.Files files.old files.new)) }
     ensures kept { F.contents files.new ≡ F.contents files.old }
     ensures faults_counted { F.fault_count files.old ≤ F.fault_count files.new }
     ensures absences_counted { F.absence_count files.old ≤ F.absence_count files.new }
@@ -118,14 +98,7 @@ pub fn search<F: Files>(
     header: &HeaderName,
 ) -> Result<Option<Found>, Stop>
     ensures absent { IfOk result (λ found. MatchOption found (Rose (F.absence_count files.old) (F.absence_count files.new)) (λ _. Unit {0})) }
-    ensures stopped { IfErr result (λ stop. StopsSearch stop (record {
-      told = F.contents files.old;
-      blamed = F.blamed files.new;
-      faults_before = F.fault_count files.old;
-      faults_after = F.fault_count files.new;
-      absences_before = F.absence_count files.old;
-      absences_after = F.absence_count files.new;
-    })) }
+    ensures stopped { IfErr result (λ stop. StopsSearch stop (counts_of F.Files files.old files.new)) }
     ensures kept { F.contents files.new ≡ F.contents files.old }
     ensures faults_counted { F.fault_count files.old ≤ F.fault_count files.new }
     ensures absences_counted { F.absence_count files.old ≤ F.absence_count files.new }

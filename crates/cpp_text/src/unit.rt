@@ -1,6 +1,7 @@
 //! From a file to the tokens of its unit.
 
 ghost use Rattle.std.specs.Prelude.{◌≡◌, ◌≤◌, IfErr};
+ghost use Rattle.fsc_outside.specs.Calls.{counts_of};
 ghost use Rattle.cpp_text.specs.Outside.{RefusesUnit, IsOfText, NamesFault, NamesBroken, Answers};
 
 use crate::opening::file_tokens;
@@ -34,14 +35,7 @@ fn faulty(alloc: Global, name: &Name) -> PpNo
 /// The bytes of the unit's own file.
 #[tactic(auto, using(crate::proofs::Earlier::refuses_fault))]
 fn own_file<F: Files>(alloc: Global, files: &mut F, name: &Name) -> Result<Bytes, PpNo>
-    ensures refused { IfErr result (λ refusal. RefusesUnit refusal name.now (record {
-      told = F.contents files.old;
-      blamed = F.blamed files.new;
-      faults_before = F.fault_count files.old;
-      faults_after = F.fault_count files.new;
-      absences_before = F.absence_count files.old;
-      absences_after = F.absence_count files.new;
-    })) }
+    ensures refused { IfErr result (λ refusal. RefusesUnit refusal name.now (counts_of F.Files files.old files.new)) }
     ensures kept { F.contents files.new ≡ F.contents files.old }
     ensures faults_counted { F.fault_count files.old ≤ F.fault_count files.new }
     ensures absences_counted { F.absence_count files.old ≤ F.absence_count files.new }
@@ -96,14 +90,7 @@ pub fn preprocess<F: Files>(
     unit: u32,
     name: &Name,
 ) -> Result<PpUnit, PpNo>
-    ensures refused { IfErr result (λ refusal. RefusesUnit refusal name.now (record {
-      told = F.contents files.old;
-      blamed = F.blamed files.new;
-      faults_before = F.fault_count files.old;
-      faults_after = F.fault_count files.new;
-      absences_before = F.absence_count files.old;
-      absences_after = F.absence_count files.new;
-    })) }
+    ensures refused { IfErr result (λ refusal. RefusesUnit refusal name.now (counts_of F.Files files.old files.new)) }
     ensures kept { F.contents files.new ≡ F.contents files.old }
     ensures faults_counted { F.fault_count files.old ≤ F.fault_count files.new }
     ensures absences_counted { F.absence_count files.old ≤ F.absence_count files.new }

@@ -1,4 +1,5 @@
 pub mod Appending
+pub mod Earlier
 pub mod Named
 pub mod Taken
 pub mod Written

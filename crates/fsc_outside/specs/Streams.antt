@@ -1,5 +1,5 @@
 -- What a stream that tells its bytes has before and after a call. One that doesn't is None, of which nothing is said.
-use Rattle.std.specs.Prelude.{◌≡◌, ℕ, ◌≤◌, List, [], ◌++◌, length, take, Option, Some, None}
+use Rattle.std.specs.Prelude.{◌≡◌, ℕ, ◌<◌, ◌≤◌, List, [], ◌++◌, length, take, Option, Some, None}
 use Rattle.fsc_outside.specs.declared.sink.Gave.{Gave}
 use Rattle.fsc_outside.specs.declared.sink.Gave.TheVariants as gave
 use Rattle.fsc_outside.specs.declared.source.Took.{Took}
@@ -13,6 +13,10 @@ Appends (Some written) new bytes = new ≡ Some (written ++ bytes)
 -- what was written before is followed by a part from the front of these bytes now
 abbrev pub AppendsFront : Option (List ℕ) → Option (List ℕ) → List ℕ → Type 0
 AppendsFront old new bytes = (n : ℕ) × (n ≤ length bytes) × Appends old new (take n bytes)
+
+-- the same, and the part is not all of them
+abbrev pub AppendsPart : Option (List ℕ) → Option (List ℕ) → List ℕ → Type 0
+AppendsPart old new bytes = (n : ℕ) × (n < length bytes) × Appends old new (take n bytes)
 
 -- what was left before began with these bytes, and the rest is left now
 abbrev pub Takes : Option (List ℕ) → Option (List ℕ) → List ℕ → Type 0

@@ -34,7 +34,8 @@ pub trait Files {
     /// The files, where the object tells them.
     ghost contents: { Self → Option FileMap };
 
-    /// The name of the last file that could not be read or written, where the object tells its files.
+    /// The name of the last file that could not be read or written, where the object tells its files. A call that did not
+    /// fail leaves it.
     ghost blamed: { Self → List ℕ };
 
     /// How many calls failed so far. It stands still at 2^64 - 1.
@@ -58,6 +59,7 @@ pub trait Files {
         ensures absence { result ≡ Got.Absent → Rose (absence_count self.old) (absence_count self.new) }
         ensures failed { result ≡ Got.Failed → Rose (fault_count self.old) (fault_count self.new) }
         ensures blamed { result ≡ Got.Failed → IsSome (contents self.old) → blamed self.new ≡ name.now }
+        ensures blame_kept { result ≢ Got.Failed → blamed self.new ≡ blamed self.old }
         ensures unchanged { contents self.new ≡ contents self.old }
         ensures faults_counted { fault_count self.old ≤ fault_count self.new }
         ensures absences_counted { absence_count self.old ≤ absence_count self.new };
@@ -67,6 +69,7 @@ pub trait Files {
         ensures done { result ≡ Put.Done → Replaces (contents self.old) (contents self.new) name.now bytes.now }
         ensures failed { result ≡ Put.Failed → Rose (fault_count self.old) (fault_count self.new) }
         ensures blamed { result ≡ Put.Failed → IsSome (contents self.old) → blamed self.new ≡ name.now }
+        ensures blame_kept { result ≢ Put.Failed → blamed self.new ≡ blamed self.old }
         ensures others { KeepsOthers (contents self.old) (contents self.new) name.now }
         ensures faults_counted { fault_count self.old ≤ fault_count self.new }
         ensures absences_counted { absence_count self.old ≤ absence_count self.new };

@@ -1,6 +1,6 @@
 //! Files in memory.
 
-ghost use Rattle.std.specs.Prelude.{◌≡◌, ◌⊎◌, ◌≤◌, Some, None, IfOk, OnOk, OnErr};
+ghost use Rattle.std.specs.Prelude.{◌≡◌, ◌≢◌, ◌⊎◌, ◌≤◌, Some, None, IfOk, OnOk, OnErr};
 ghost use Rattle.std.specs.Option.{option_map};
 ghost use Rattle.fsc_outside.specs.Counts.{Rose};
 ghost use Rattle.fsc_outside.specs.FileMap.{file_of, Holds, Replaces, KeepsOthers, IfFound};
@@ -105,6 +105,7 @@ impl Files for MemFiles {
         ensures absence { result ≡ Got.Absent → Rose self.old.absences self.new.absences }
         ensures failed { result ≡ Got.Failed → Rose self.old.plan.faults self.new.plan.faults }
         ensures blamed { result ≡ Got.Failed → self.new.blamed ≡ name.now }
+        ensures blame_kept { result ≢ Got.Failed → self.new.blamed ≡ self.old.blamed }
         ensures unchanged { self.new.files ≡ self.old.files }
         ensures faults_counted { self.old.plan.faults ≤ self.new.plan.faults }
         ensures absences_counted { self.old.absences ≤ self.new.absences }
@@ -137,6 +138,7 @@ impl Files for MemFiles {
         ensures done { result ≡ Put.Done → Replaces (Some self.old.files) (Some self.new.files) name.now bytes.now }
         ensures failed { result ≡ Put.Failed → Rose self.old.plan.faults self.new.plan.faults }
         ensures blamed { result ≡ Put.Failed → self.new.blamed ≡ name.now }
+        ensures blame_kept { result ≢ Put.Failed → self.new.blamed ≡ self.old.blamed }
         ensures others { KeepsOthers (Some self.old.files) (Some self.new.files) name.now }
         ensures faults_counted { self.old.plan.faults ≤ self.new.plan.faults }
         ensures absences_counted { self.old.absences ≤ self.new.absences }

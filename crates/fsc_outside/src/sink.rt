@@ -1,8 +1,8 @@
 //! A stream to write to.
 
-ghost use Rattle.std.specs.Prelude.{◌≡◌, ℕ, ◌+◌, ◌^◌, ◌<◌, ◌≤◌, List, Option, length, take, drop};
+ghost use Rattle.std.specs.Prelude.{◌≡◌, ℕ, ◌≢◌, ◌+◌, ◌^◌, ◌<◌, ◌≤◌, List, Option, length, take, drop};
 ghost use Rattle.fsc_outside.specs.Counts.{Rose};
-ghost use Rattle.fsc_outside.specs.Streams.{Appends, AppendsFront, given_of, IfGave};
+ghost use Rattle.fsc_outside.specs.Streams.{Appends, AppendsFront, AppendsPart, given_of, IfGave};
 
 /// What a sink did with a piece.
 #[derive(Clone, Copy, Debug, PartialEq, Eq)]
@@ -41,9 +41,9 @@ pub trait Sink {
 pub enum Wrote {
     /// All of it was written.
     Whole,
-    /// A part from its front was written, perhaps none of it, and the count of faults rose.
+    /// A part from its front was written, perhaps none of it and never all, and the count of faults rose.
     Failed,
-    /// A part from its front was written, perhaps none of it, and then memory was refused.
+    /// A part from its front was written, perhaps none of it and never all, and then memory was refused.
     NoMemory,
 }
 
@@ -52,6 +52,7 @@ pub enum Wrote {
 pub fn write_whole<O: Sink>(out: &mut O, piece: &[u8]) -> Wrote
     ensures whole { result ≡ Wrote.Whole → Appends (O.written out.old) (O.written out.new) piece.now }
     ensures front { AppendsFront (O.written out.old) (O.written out.new) piece.now }
+    ensures part { result ≢ Wrote.Whole → AppendsPart (O.written out.old) (O.written out.new) piece.now }
     ensures failed { result ≡ Wrote.Failed → Rose (O.fault_count out.old) (O.fault_count out.new) }
     ensures counted { O.fault_count out.old ≤ O.fault_count out.new }
 {

@@ -1,8 +1,7 @@
 mod Asking
-mod Fronting
-mod Going
+mod Causes
+mod Jobs
 mod Names
-mod Noting
 mod Performing
 mod Promises
-mod Refusing
+mod Reporting

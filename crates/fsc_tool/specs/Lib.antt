@@ -1,4 +1,3 @@
-pub mod Ending
 pub mod Performing
 pub mod Tool
 pub mod Words

@@ -2,15 +2,7 @@
 //! its theorem.
 #![tactic(auto)]
 
-mod ending;
-mod front;
-mod go;
-mod note;
-mod reading;
-mod run;
-mod running;
-mod tool;
+mod top_call;
 
-pub use ending::{Ending, Form, StopKind, Storage, status};
-pub use note::report;
-pub use tool::tool;
+pub use fsc_ending::{Ending, Form, StopKind, Storage, report, status};
+pub use top_call::tool;

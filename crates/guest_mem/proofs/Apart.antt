@@ -44,7 +44,7 @@ changes_there (region ∷ regions) at n (suc i) bytes d apart some few h =
     rw (none, changes_there regions at n i bytes d apart.1 some few (inside, h.1, λ k lt. h.2 (suc k) (omega arith))) refl
 
 -- the rest of the room keeps its bytes
-part_kept : (region : Region) (at n : ℕ) (bytes : List ℕ) → Within region at n → length bytes ≤ n → with_part region at (over_front bytes (part region at n)) ≡ with_part region at bytes
+pub part_kept : (region : Region) (at n : ℕ) (bytes : List ℕ) → Within region at n → length bytes ≤ n → with_part region at (over_front bytes (part region at n)) ≡ with_part region at bytes
 part_kept region at n bytes within few =
     let place = at - region.address in
     let all = region.bytes in

@@ -1,17 +1,15 @@
 -- What a fill has taken after each turn, and what it leaves in memory.
 use Rattle.std.proofs.Common.{◌≡◌, ℕ, ◌+◌, ◌-◌, ◌<◌, ◌≤◌, IsTrue, List, [], ◌++◌, length, take, drop, set, get_or, position, Option, Some, None, is_some, true, refl, sym, ap, subst, ◌∙◌, append_assoc, length-append, length-drop, take-append-drop, inl, inr, arith}
-use borrow.Rule.Slice.PartMut.{put_mid}
 use Rattle.std.proofs.lemmas.Bool.{cases_lt}
 use Rattle.std.proofs.lemmas.List.{append-nil, drop-drop, length-take-le, nil_from_length, set-get_or, take_all, drop_all}
 use Rattle.std.proofs.lemmas.List.Elements.{All-nil, All-take, All-from_get_or}
-use Rattle.std.proofs.lemmas.Slice.{take-put_mid, drop-put_mid}
 use Rattle.std.proofs.Math.Seq.{drop-append_seam, take-append_seam}
 use Rattle.fsc_outside.specs.Streams.{Takes, AtEnd}
 use Rattle.guest_mem.specs.declared.right.Right.TheVariants.{Write}
 use Rattle.guest_mem.specs.Regions.{Region}
 use Rattle.guest_mem.specs.Layout.{AreBytes}
 use Rattle.guest_mem.specs.Guest.{part, with_part, with_bytes, covers}
-use Rattle.guest_mem.specs.Filling.{TakesUpTo, TakesFront, TakesBy, over_front, front_over, with_front, FillsSlice, FillsRegion, Fills}
+use Rattle.guest_mem.specs.Filling.{TakesUpTo, TakesFront, TakesBy, over_front, front_over, with_front, FillsRegion, Fills}
 use Rattle.guest_mem.specs.declared.streams.Filled.{Filled}
 use Rattle.guest_mem.specs.declared.streams.Filled.TheVariants.{Read}
 use Rattle.guest_mem.proofs.Places.{serves, Within, within_place, bytes_at-nothing, bytes_at-place, bytes_at-no_place, with_bytes-nothing, with_bytes-place}
@@ -57,41 +55,11 @@ takes_rest (Some left) now new bytes n few first end then =
     let none : drop n left ≡ [] = drop_all n left (omega (arith, ap length whole)) in
     (sym (all ∙ whole), nothing ∙ ap (λ (rest : List ℕ). Some rest) (sym none))
 
--- ---- the target
-
--- a piece was copied from the front of the buffer to the target, behind what was taken before
-pub record Copies (target buffer copied : List ℕ) (taken n size : ℕ) : Type 0 where
-  pub long : size ≡ n
-  pub fits : taken + n ≤ length target
-  pub some : n ≤ length buffer
-  pub front : copied ≡ take n buffer
-
-piece_length : (target buffer copied : List ℕ) (taken n size : ℕ) → Copies target buffer copied taken n size → length copied ≡ n
-piece_length target buffer copied taken n size h = ap length h.front ∙ length-take-le n buffer h.some
-
-pub behind_more : (target old buffer copied : List ℕ) (taken n size : ℕ) → Copies target buffer copied taken n size → drop taken target ≡ drop taken old
-    → drop (taken + n) (put_mid taken size target copied) ≡ drop (taken + n) old
-behind_more target old buffer copied taken n size h behind =
-    let long = piece_length target buffer copied taken n size h in
-    drop-put_mid taken size target copied (taken + n) (omega arith) (omega arith) (omega arith) ∙ sym (drop-drop n taken target) ∙ ap (λ (l : List ℕ). drop n l) behind ∙ drop-drop n taken old
-
-pub front_more : (first now new : Option (List ℕ)) (target buffer copied : List ℕ) (taken n size : ℕ) → Copies target buffer copied taken n size
-    → Takes first now (take taken target) → Takes now new (take n buffer) → Takes first new (take (taken + n) (put_mid taken size target copied))
-front_more first now new target buffer copied taken n size h front then =
-    let long = piece_length target buffer copied taken n size h in
-    let joined : take (taken + n) (put_mid taken size target copied) ≡ take taken target ++ take n buffer =
-    take-put_mid taken size target copied (taken + n) (omega arith) (omega arith) ∙ ap (λ (l : List ℕ). take taken target ++ l) h.front in
-    subst (λ (bytes : List ℕ). Takes first new bytes) (sym joined) (takes_then first now new (take taken target) (take n buffer) front then)
-
 -- a front of bytes is bytes
 pub taken_bytes : (target : List ℕ) (n : ℕ) → ((i : ℕ) → get_or target i 0 < 256) → AreBytes (take n target)
 taken_bytes target n h =
     let byte : ℕ → Type 0 = λ b. b < 256 in
     All-take byte n target (All-from_get_or byte target 0 (λ i below. h i))
-
--- the target begins with what was taken
-pub over_front_of : (target old : List ℕ) (taken : ℕ) → taken ≤ length target → drop taken target ≡ drop taken old → target ≡ over_front (take taken target) old
-over_front_of target old taken within behind = rw (length-take-le taken target within, ← behind, take-append-drop) refl
 
 -- ---- memory
 
@@ -100,30 +68,6 @@ length-over_front bytes all few = length-append bytes (drop (length bytes) all) 
 
 pub length-part : (region : Region) (at n : ℕ) → Within region at n → length (part region at n) ≡ n
 length-part region at n within = length-take-le n (drop (at - region.address) region.bytes) (omega (arith, length-drop (at - region.address) region.bytes, within.0, within.1))
-
--- a part of a list of bytes, as long as `n`, where other bytes stand now
-written_part : (region : Region) (at n : ℕ) (new : List ℕ) → length new ≡ n → record region { bytes = put_mid (at - region.address) n region.bytes new } ≡ with_part region at new
-written_part region at n new long =
-    let rest : drop n (drop (at - region.address) region.bytes) ≡ drop (at - region.address + length new) region.bytes = rw long (drop-drop n (at - region.address) region.bytes) in
-    ap (λ (l : List ℕ). record region { bytes = take (at - region.address) region.bytes ++ (new ++ l) }) rest
-
--- the part was filled
-pub fills_region : (region : Region) (at n size : ℕ) (all target : List ℕ) (answer : Filled) (before after : Option (List ℕ)) → Within region at n → all ≡ region.bytes → size ≡ n
-    → FillsSlice answer (take size (drop (at - region.address) all)) target before after
-    → FillsRegion answer region (record region { bytes = put_mid (at - region.address) size all target }) at n before after
-fills_region region at n size all target answer before after within same long fills =
-    let place = at - region.address in
-    let found : take size (drop place all) ≡ part region at n = ap (λ k. take k (drop place all)) long ∙ ap (λ (l : List ℕ). take n (drop place l)) same in
-    let here : FillsSlice answer (part region at n) target before after = subst (λ (l : List ℕ). FillsSlice answer l target before after) found fills in
-    let whole : length (part region at n) ≡ n = length-part region at n within in
-    let full : length target ≡ n = ap length here.2 ∙ length-over_front here.0 (part region at n) here.1 ∙ whole in
-    let put : put_mid place size all target ≡ put_mid place n region.bytes target = ap (λ k. put_mid place k all target) long ∙ ap (λ (l : List ℕ). put_mid place n l target) same in (
-      here.0,
-      omega (arith, here.1),
-      ap (λ (l : List ℕ). record region { bytes = l }) put ∙ written_part region at n target full ∙ ap (λ (l : List ℕ). with_part region at l) here.2,
-      subst (λ k. TakesBy answer k before after here.0) whole here.3,
-      here.4,
-    )
 
 -- the first region that has the n bytes and may be written begins with the bytes there now
 pub with_front-place : (regions : List Region) (at n place : ℕ) (bytes : List ℕ) (d : Region) → position (serves Write at n) regions ≡ Some place → length bytes ≤ n

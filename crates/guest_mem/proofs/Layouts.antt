@@ -51,7 +51,7 @@ with_bytes-last at bytes new =
 pub length-with_part : (region : Region) (at : ℕ) (bytes : List ℕ) → Within region at (length bytes) → length (with_part region at bytes).bytes ≡ length region.bytes
 length-with_part region at bytes h = length-overwritten region.bytes (at - region.address) bytes (omega arith)
 
-extent_of-with_part : (region : Region) (at : ℕ) (bytes : List ℕ) → Within region at (length bytes) → extent_of (with_part region at bytes) ≡ extent_of region
+pub extent_of-with_part : (region : Region) (at : ℕ) (bytes : List ℕ) → Within region at (length bytes) → extent_of (with_part region at bytes) ≡ extent_of region
 extent_of-with_part region at bytes h =
     ap (λ (size : ℕ). let e : Extent = record { address = region.address; flags = region.flags; size = size } in e) (length-with_part region at bytes h)
 

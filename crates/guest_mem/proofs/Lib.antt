@@ -5,5 +5,9 @@ pub mod Executing
 pub mod Filling
 pub mod Layouts
 pub mod LittleEndian
+mod PagedBytes
+mod Pages
 mod Parts
 pub mod Places
+mod Ready
+mod Streaming

@@ -74,7 +74,7 @@ bytes_at-nothing (region ∷ regions) right at =
       | false ↦ bytes_at-nothing regions right at
     ]
 
-overwritten-nothing : (all : List ℕ) (place : ℕ) → overwritten all place [] ≡ all
+pub overwritten-nothing : (all : List ℕ) (place : ℕ) → overwritten all place [] ≡ all
 overwritten-nothing all place = rw (add-zero, take-append-drop) refl
 
 changes-nothing : (regions : List Region) (at : ℕ) → with_bytes regions at [] ≡ Some regions

@@ -40,11 +40,6 @@ with_front regions at n bytes = front_over regions at bytes (bytes_at regions Wr
 
 -- ---- both
 
--- a slice begins with what was taken
-abbrev pub FillsSlice : Filled → (old new : List ℕ) (before after : Option (List ℕ)) → Type 0
-FillsSlice answer old new before after =
-    (bytes : List ℕ) × (length bytes ≤ length old) × (new ≡ over_front bytes old) × TakesBy answer (length old) before after bytes × AreBytes bytes
-
 -- n bytes of a region from an address on begin with what was taken
 abbrev pub FillsRegion : Filled → (old new : Region) (at n : ℕ) (before after : Option (List ℕ)) → Type 0
 FillsRegion answer old new at n before after =

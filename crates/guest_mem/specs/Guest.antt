@@ -1,6 +1,6 @@
 -- Guest memory: what the bytes at an address are, what a store leaves, and when an access is refused.
 -- Read it beside the RISC-V manual: addresses are numbers below 2 ^ 32, and sizes are in bytes.
-use Rattle.std.specs.Prelude.{◌≡◌, ℕ, zero, suc, ◌+◌, ◌*◌, ◌-◌, ◌/◌, ◌%◌, ◌==◌, nat_le, ◌&&◌, if◌then◌else◌, List, [], ◌∷◌, ◌++◌, length, take, drop, map, replicate, Bool, Option, Some, None, is_some, Result, Ok, Err}
+use Rattle.std.specs.Prelude.{◌≡◌, ℕ, zero, suc, ◌+◌, ◌*◌, ◌-◌, ◌/◌, ◌%◌, ◌==◌, nat_le, ◌&&◌, if◌then◌else◌, List, [], ◌∷◌, ◌++◌, length, take, drop, map, replicate, Bool, Option, Some, None, is_some, is_ok, IsTrue, Result, Ok, Err}
 use Rattle.std.specs.Option.{option_map}
 use Rattle.fsc_base.specs.declared.image.Segment.{Segment}
 use Rattle.fsc_base.specs.declared.image.Image.{Image}
@@ -91,12 +91,17 @@ stored_bytes width regions at bytes =
 unfoldable pub stored : (width : ℕ) → List Region → (at value : ℕ) → Result (List Region) Fault
 stored width regions at value = stored_bytes width regions at (little_endian_bytes width value)
 
--- How a store goes: it leaves what it is to leave, or it is refused and leaves memory as it was.
+-- How a store goes: it leaves what it is to leave, or it is refused and leaves memory as it was. Want of memory refuses only
+-- what nothing else refuses.
 abbrev pub Stores : Result (List Region) Fault → (old new : List Region) → Result (Unit {0}) StoreNo → Type 0
 Stores said old new (Ok _) = said ≡ Ok new
 Stores said old new (Err no.Misaligned) = (said ≡ Err fault.Misaligned) × (new ≡ old)
 Stores said old new (Err no.Outside) = (said ≡ Err fault.Outside) × (new ≡ old)
-Stores said old new (Err no.NoMemory) = new ≡ old
+Stores said old new (Err no.NoMemory) = IsTrue (is_ok said) × (new ≡ old)
+
+-- a region of zeros
+abbrev pub blank_region : (address flags size : ℕ) → Region
+blank_region address flags size = record { address = address; flags = flags; bytes = replicate size 0 }
 
 -- a segment in memory: its bytes, and then zeros to its size
 abbrev pub region_of : Segment → Region

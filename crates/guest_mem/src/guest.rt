@@ -1,118 +1,162 @@
 //! The guest's memory as a whole.
 
-ghost use Rattle.std.specs.Prelude.{◌≡◌, ◌≢◌, ◌+◌, ◌^◌, ◌<◌, ◌≤◌, length, position, IsTrue, Some, None, Err, IfOk, IfSome, MatchBool, MatchOption, MatchResult};
+ghost use Rattle.std.specs.Prelude.{◌≡◌, ◌≢◌, ◌+◌, ◌%◌, ◌^◌, ◌<◌, ◌≤◌, ◌⊎◌, length, position, IsTrue, None, Some, Ok, Err, IfOk, IfSome, MatchOption};
 ghost use Rattle.fsc_base.specs.Image.{IsSound};
-ghost use Rattle.guest_mem.specs.Guest.{bytes_at, contains, covers, fetched, loaded, memory_of, number_at, stored, stored_bytes, with_bytes, Stores};
+ghost use Rattle.guest_mem.specs.Guest.{bytes_at, contains, covers, fetched, little_endian, loaded, memory_in, memory_of, number_at, number_in, stored, with_bytes, Stores};
+ghost use Rattle.guest_mem.specs.Layout.{AllApart, layout};
+ghost use Rattle.guest_mem.specs.Ready.{IsReady, StaysReady};
+ghost use Rattle.guest_mem.specs.Regions.{regions_of};
 
 use crate::fault::{Fault, StoreNo};
-use crate::flat_region::FlatRegion;
+use crate::region::PagedRegion;
 use crate::right::Right;
 use fsc_base::{Image, NoMemory};
 use std::alloc::Global;
 use std::marker::Model;
 
 /// All memory of a guest machine. Contracts see it as the list of its regions, in the order of the image's segments,
-/// each with all its bytes. An access looks through them in that order.
+/// each with all its bytes and for which of them a page was made. An access looks through them in that order.
+///
+/// It takes memory for the pages of the bytes that the image gives, and then a page of 4,096 bytes at the first store
+/// that touches it; a page stays until the value ends. For every 4 MiB of a region it takes a table of 32 bytes, and
+/// one of 1,024 pages where some page in them was made.
 #[derive(Debug, Drop)]
 pub struct Guest {
-    pub(crate) regions: Vec<FlatRegion>,
+    pub(crate) regions: Vec<PagedRegion>,
+    alloc: Global,
 }
 
 impl Model for Guest {
     ghost use Rattle.std.specs.Prelude.{List};
-    ghost use Rattle.guest_mem.specs.Regions.{Region};
+    ghost use Rattle.guest_mem.specs.Layout.{AllApart};
+    ghost use Rattle.guest_mem.specs.Regions.{Paged, regions_of};
 
-    ghost Value = { List Region };
+    ghost Value = { List Paged };
 
     ghost view = { λ g. g.regions.items };
+
+    ghost invariant = { λ g. AllApart (regions_of g.regions.items) };
 }
 
 /// The index of the first region that has `n` bytes from the address `at` on and gives the right.
-pub(crate) fn place_of(regions: &[FlatRegion], right: Right, at: u32, n: usize) -> Option<usize>
+pub(crate) fn place_of(regions: &[PagedRegion], right: Right, at: u32, n: usize) -> Option<usize>
     requires { n < 2 ^ 63 }
-    ensures { result ≡ position (λ region. contains region right at n) regions.now }
+    ensures { result ≡ position (λ paged. contains paged.region right at n) regions.now }
 {
     regions
         .iter()
         .position(|region| region.contains(right, at, n))
 }
 
-/// `n` bytes from the address `at` on, where one region has them all and gives the right.
-pub(crate) fn part_in(regions: &[FlatRegion], right: Right, at: u32, n: usize) -> Option<&[u8]>
-    requires { n < 2 ^ 63 }
-    ensures bytes { MatchOption result
-        (bytes_at regions.now right at n ≡ None)
-        (λ bytes. bytes_at regions.now right at n ≡ Some bytes.now) }
-    ensures length { IfSome result (λ bytes. length bytes.now ≡ n) }
+/// `n` bytes from the address `at` on, all in one page, where one region has them all and gives the right. None where
+/// their page was not made: then they are zero.
+fn part_in(regions: &[PagedRegion], right: Right, at: u32, n: usize) -> Option<&[u8]>
+    requires some { 0 < n }
+    requires page { at % 4096 + n ≤ 4096 }
+    ensures number { MatchOption result
+        (bytes_at (regions_of regions.now) right at n ≡ None)
+        (λ bytes. number_in (bytes_at (regions_of regions.now) right at n) ≡ Ok (little_endian bytes.now)) }
+    ensures length { IfSome result (λ bytes. (length bytes.now ≡ 0) ⊎ (length bytes.now ≡ n)) }
 {
-    if n == 0 {
-        return Some(&[]);
-    }
     let Some(place) = place_of(regions, right, at, n) else {
         return None;
     };
-    Some(regions[place].part(at, n))
-}
-
-/// Puts bytes where one region has as many from the address `at` on and may be written. Whether it could.
-fn put_in(regions: &mut [FlatRegion], at: u32, bytes: &[u8]) -> bool
-    ensures { MatchBool result
-        (with_bytes regions.old at bytes.now ≡ Some regions.new)
-        ((with_bytes regions.old at bytes.now ≡ None) × (regions.new ≡ regions.old)) }
-{
-    if bytes.is_empty() {
-        return true;
-    }
-    let Some(place) = place_of(regions, Right::Write, at, bytes.len()) else {
-        return false;
-    };
-    regions[place].write(at, bytes);
-    true
+    Some(regions[place].in_page(at, n))
 }
 
 /// The number that the four bytes at the address `at` spell, where it is a multiple of 4 and one region has them all and
 /// gives the right.
-fn word_in(regions: &[FlatRegion], right: Right, at: u32) -> Result<u32, Fault>
-    ensures { result ≡ number_at 4 regions.now right at }
+fn word_in(regions: &[PagedRegion], right: Right, at: u32) -> Result<u32, Fault>
+    ensures { result ≡ number_at 4 (regions_of regions.now) right at }
 {
     if at % 4 != 0 {
         return Err(Fault::Misaligned);
     }
     match part_in(regions, right, at, 4) {
         Some([a, b, c, d]) => Ok(u32::from_le_bytes([*a, *b, *c, *d])),
-        _ => Err(Fault::Outside),
+        Some(_) => Ok(0),
+        None => Err(Fault::Outside),
     }
 }
 
+/// Puts bytes where one region has as many from the address `at` on, in one page, and may be written.
+fn store_in(
+    regions: &mut [PagedRegion],
+    alloc: Global,
+    at: u32,
+    bytes: &[u8],
+) -> Result<(), StoreNo>
+    requires some { 0 < length bytes.now }
+    requires page { at % 4096 + length bytes.now ≤ 4096 }
+    ensures stores { Stores (memory_in (with_bytes (regions_of regions.old) at bytes.now)) (regions_of regions.old) (regions_of regions.new) result }
+    ensures ready { IsReady regions.old at (length bytes.now) → result ≢ Err StoreNo.NoMemory }
+    ensures kept { StaysReady regions.old regions.new }
+    ensures laid { layout (regions_of regions.new) ≡ layout (regions_of regions.old) }
+{
+    let Some(place) = place_of(regions, Right::Write, at, bytes.len()) else {
+        return Err(StoreNo::Outside);
+    };
+    match regions[place].store(alloc, at, bytes) {
+        Ok(()) => Ok(()),
+        Err(NoMemory) => Err(StoreNo::NoMemory),
+    }
+}
+
+/// Makes the pages of the `n` bytes from the address `at` on where one region has them all and may be written.
+fn make_in(regions: &mut [PagedRegion], alloc: Global, at: u32, n: u32) -> Result<(), NoMemory>
+    requires apart { AllApart (regions_of regions.old) }
+    requires covered { IsTrue (covers (regions_of regions.old) Right.Write at n) }
+    ensures same { regions_of regions.new ≡ regions_of regions.old }
+    ensures ready { IfOk result (λ _. IsReady regions.new at n) }
+    ensures kept { StaysReady regions.old regions.new }
+{
+    let Some(place) = place_of(regions, Right::Write, at, n as usize) else {
+        return Ok(());
+    };
+    regions[place].make(alloc, at, n)
+}
+
 impl Guest {
-    /// The memory of a sound image: the bytes of its segments, and zeros past them. It takes the sizes of the segments in
-    /// bytes. Refused only for want of memory.
+    /// The memory of a sound image: the bytes of its segments, and zeros past them. It takes the pages of the bytes that
+    /// the segments give. Refused only for want of memory.
     pub fn new(alloc: Global, image: &Image) -> Result<Guest, NoMemory>
         requires { IsSound image.now }
-        ensures { IfOk result (λ guest. guest ≡ memory_of image.now) }
+        ensures { IfOk result (λ guest. regions_of guest ≡ memory_of image.now) }
     {
         let mut regions = Vec::new(alloc);
         for segment in image.segments.as_slice() {
-            regions.push(FlatRegion::new(alloc, segment)?)?;
+            regions.push(PagedRegion::new(alloc, segment)?)?;
         }
-        Ok(Guest { regions })
+        Ok(Guest { regions, alloc })
     }
 
     /// Whether `n` is 0 or the `n` bytes from the address `at` on all lie in one region that gives the right.
     pub fn covers(&self, at: u32, n: u32, right: Right) -> bool
-        ensures { result ≡ covers self.now right at n }
+        ensures { result ≡ covers (regions_of self.now) right at n }
     {
-        part_in(&self.regions, right, at, n as usize).is_some()
+        n == 0 || place_of(&self.regions, right, at, n as usize).is_some()
+    }
+
+    /// Makes each page that the `n` bytes from the address `at` on touch, which all lie in one region that may be written.
+    /// From then on a store within them needs no memory. Refused only for want of memory. No byte changes.
+    pub fn ready(&mut self, at: u32, n: u32) -> Result<(), NoMemory>
+        requires { IsTrue (covers (regions_of self.old) Right.Write at n) }
+        ensures same { regions_of self.new ≡ regions_of self.old }
+        ensures ready { IfOk result (λ _. IsReady self.new at n) }
+        ensures kept { StaysReady self.old self.new }
+    {
+        make_in(self.regions.as_mut_slice(), self.alloc, at, n)
     }
 
     /// The byte at the address `at`. Refused with `Outside`, exactly where no region that may be read has it.
     #[tactic(auto, unfolding(crate::specs::Guest::loaded))]
     pub fn load8(&self, at: u32) -> Result<u8, Fault>
-        ensures { result ≡ loaded 1 self.now at }
+        ensures { result ≡ loaded 1 (regions_of self.now) at }
     {
         match part_in(&self.regions, Right::Read, at, 1) {
             Some([byte]) => Ok(*byte),
-            _ => Err(Fault::Outside),
+            Some(_) => Ok(0),
+            None => Err(Fault::Outside),
         }
     }
 
@@ -120,14 +164,15 @@ impl Guest {
     /// `Outside` exactly where the bytes do not both lie in one region that may be read.
     #[tactic(auto, unfolding(crate::specs::Guest::loaded))]
     pub fn load16(&self, at: u32) -> Result<u16, Fault>
-        ensures { result ≡ loaded 2 self.now at }
+        ensures { result ≡ loaded 2 (regions_of self.now) at }
     {
         if at % 2 != 0 {
             return Err(Fault::Misaligned);
         }
         match part_in(&self.regions, Right::Read, at, 2) {
             Some([low, high]) => Ok(u16::from_le_bytes([*low, *high])),
-            _ => Err(Fault::Outside),
+            Some(_) => Ok(0),
+            None => Err(Fault::Outside),
         }
     }
 
@@ -135,7 +180,7 @@ impl Guest {
     /// of 4, else with `Outside` exactly where the bytes do not all lie in one region that may be read.
     #[tactic(auto, unfolding(crate::specs::Guest::loaded))]
     pub fn load32(&self, at: u32) -> Result<u32, Fault>
-        ensures { result ≡ loaded 4 self.now at }
+        ensures { result ≡ loaded 4 (regions_of self.now) at }
     {
         word_in(&self.regions, Right::Read, at)
     }
@@ -144,77 +189,60 @@ impl Guest {
     /// of 4, else with `Outside` exactly where the bytes do not all lie in one region that may be executed.
     #[tactic(auto, unfolding(crate::specs::Guest::fetched))]
     pub fn fetch(&self, at: u32) -> Result<u32, Fault>
-        ensures { result ≡ fetched self.now at }
+        ensures { result ≡ fetched (regions_of self.now) at }
     {
         word_in(&self.regions, Right::Execute, at)
     }
 
     /// Makes `value` the byte at the address `at`. Refused, with nothing changed, with `Outside` exactly where no region
-    /// that may be written has it. It needs no memory.
+    /// that may be written has it; else with `NoMemory` only where memory is wanted for its page.
     #[tactic(auto, unfolding(crate::specs::Guest::stored))]
     pub fn store8(&mut self, at: u32, value: u8) -> Result<(), StoreNo>
-        ensures stores { Stores (stored 1 self.old at value) self.old self.new result }
-        ensures ample { result ≢ Err StoreNo.NoMemory }
+        ensures stores { Stores (stored 1 (regions_of self.old) at value) (regions_of self.old) (regions_of self.new) result }
+        ensures ready { IsReady self.old at 1 → result ≢ Err StoreNo.NoMemory }
+        ensures kept { StaysReady self.old self.new }
     {
         self.store(at, &[value])
     }
 
     /// Makes the bytes of `value` the two bytes at the address `at`, the lowest first. Refused, with nothing changed, with
     /// `Misaligned` exactly where `at` is odd, else with `Outside` exactly where the bytes do not both lie in one region
-    /// that may be written. It needs no memory.
+    /// that may be written; else with `NoMemory` only where memory is wanted for their page.
     #[tactic(auto, unfolding(crate::specs::Guest::stored))]
     pub fn store16(&mut self, at: u32, value: u16) -> Result<(), StoreNo>
-        ensures stores { Stores (stored 2 self.old at value) self.old self.new result }
-        ensures ample { result ≢ Err StoreNo.NoMemory }
+        ensures stores { Stores (stored 2 (regions_of self.old) at value) (regions_of self.old) (regions_of self.new) result }
+        ensures ready { IsReady self.old at 2 → result ≢ Err StoreNo.NoMemory }
+        ensures kept { StaysReady self.old self.new }
     {
+        if at % 2 != 0 {
+            return Err(StoreNo::Misaligned);
+        }
         self.store(at, &value.to_le_bytes())
     }
 
     /// Makes the bytes of `value` the four bytes at the address `at`, the lowest first. Refused, with nothing changed, with
     /// `Misaligned` exactly where `at` is no multiple of 4, else with `Outside` exactly where the bytes do not all lie in
-    /// one region that may be written. It needs no memory.
+    /// one region that may be written; else with `NoMemory` only where memory is wanted for their page.
     #[tactic(auto, unfolding(crate::specs::Guest::stored))]
     pub fn store32(&mut self, at: u32, value: u32) -> Result<(), StoreNo>
-        ensures stores { Stores (stored 4 self.old at value) self.old self.new result }
-        ensures ample { result ≢ Err StoreNo.NoMemory }
+        ensures stores { Stores (stored 4 (regions_of self.old) at value) (regions_of self.old) (regions_of self.new) result }
+        ensures ready { IsReady self.old at 4 → result ≢ Err StoreNo.NoMemory }
+        ensures kept { StaysReady self.old self.new }
     {
+        if at % 4 != 0 {
+            return Err(StoreNo::Misaligned);
+        }
         self.store(at, &value.to_le_bytes())
     }
 
-    /// Puts these bytes at the address `at`, a multiple of their number.
+    /// Puts these bytes at the address `at`, all in one page.
     fn store(&mut self, at: u32, bytes: &[u8]) -> Result<(), StoreNo>
         requires some { 0 < length bytes.now }
-        requires few { length bytes.now ≤ 4 }
-        ensures stores { Stores (stored_bytes (length bytes.now) self.old at bytes.now) self.old self.new result }
-        ensures ample { result ≢ Err StoreNo.NoMemory }
+        requires page { at % 4096 + length bytes.now ≤ 4096 }
+        ensures stores { Stores (memory_in (with_bytes (regions_of self.old) at bytes.now)) (regions_of self.old) (regions_of self.new) result }
+        ensures ready { IsReady self.old at (length bytes.now) → result ≢ Err StoreNo.NoMemory }
+        ensures kept { StaysReady self.old self.new }
     {
-        if at % bytes.len() as u32 != 0 {
-            Err(StoreNo::Misaligned)
-        } else if put_in(self.regions.as_mut_slice(), at, bytes) {
-            Ok(())
-        } else {
-            Err(StoreNo::Outside)
-        }
-    }
-
-    /// Fills the buffer with the bytes from the address `at` on, which all lie in one region that may be read. An empty
-    /// buffer may be filled from anywhere.
-    pub fn read_into(&self, at: u32, buffer: &mut [u8])
-        requires { IsTrue (covers self.now Right.Read at (length buffer.old)) }
-        ensures { bytes_at self.now Right.Read at (length buffer.old) ≡ Some buffer.new }
-    {
-        if let Some(bytes) = part_in(&self.regions, Right::Read, at, buffer.len()) {
-            buffer.copy_from_slice(bytes);
-        }
-    }
-
-    /// Makes these the bytes from the address `at` on, which all lie in one region that may be written. An empty slice may
-    /// be written anywhere.
-    pub fn write_from(&mut self, at: u32, bytes: &[u8])
-        requires { IsTrue (covers self.old Right.Write at (length bytes.now)) }
-        ensures { with_bytes self.old at bytes.now ≡ Some self.new }
-    {
-        let is_put = put_in(self.regions.as_mut_slice(), at, bytes);
-        prove!(is_put);
+        store_in(self.regions.as_mut_slice(), self.alloc, at, bytes)
     }
 }

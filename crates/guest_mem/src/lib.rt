@@ -2,9 +2,11 @@
 //! Manual, volume I: byte addresses of 32 bits, little-endian).
 #![tactic(auto)]
 
+mod directory;
 mod fault;
-mod flat_region;
 mod guest;
+mod page;
+mod region;
 mod right;
 mod streams;
 
@@ -12,8 +14,3 @@ pub use fault::{Fault, StoreNo};
 pub use guest::Guest;
 pub use right::Right;
 pub use streams::Filled;
-
-#[cfg(test)]
-mod stream_tests;
-#[cfg(test)]
-mod tests;

@@ -4,6 +4,7 @@ use crate::draft::Draft;
 use crate::streams::{Streams, name_of};
 use crate::told::{Told, tell, tell_number, tell_whether};
 use case_table::{NoStep, bytes_of_text, number_of, text_of};
+use fsc_outside::{MemSink, MemSource, Wrote};
 use guest_mem::{Fault, Filled, Guest, Right, StoreNo};
 use std::alloc::Global;
 
@@ -73,21 +74,24 @@ fn store_step(guest: &mut Guest, alloc: Global, words: [&str; 3]) -> Told {
     }
 }
 
-/// Reads a buffer, where the bytes lie in a segment that may be read.
+/// The bytes, where they lie in a segment that may be read.
 fn read_into(guest: &Guest, alloc: Global, at: u32, n: u32) -> Told {
     if !guest.covers(at, n, Right::Read) {
         return tell(alloc, "not covered");
     }
-    let mut buffer = vec![in alloc; 0; n as usize]?;
-    guest.read_into(at, &mut buffer);
-    Ok(Some(text_of(alloc, &buffer)?))
+    let mut sink = MemSink::new(alloc, &[])?;
+    match guest.write_to(at, n, &mut sink) {
+        Wrote::Whole => Ok(Some(text_of(alloc, sink.bytes())?)),
+        Wrote::Failed | Wrote::NoMemory => Err(NoStep::NoMemory),
+    }
 }
 
-/// Writes a buffer, where the bytes lie in a segment that may be written.
+/// Makes these the bytes, where they lie in a segment that may be written.
 fn write_from(guest: &mut Guest, alloc: Global, at: u32, bytes: &[u8]) -> Told {
     match u32::try_from(bytes.len()) {
         Ok(n) if guest.covers(at, n, Right::Write) => {
-            guest.write_from(at, bytes);
+            guest.ready(at, n)?;
+            guest.fill_from(at, n, &mut MemSource::new(alloc, bytes, &[])?);
             tell(alloc, "ok")
         }
         _ => tell(alloc, "not covered"),
@@ -99,6 +103,7 @@ fn fill_from(guest: &mut Guest, alloc: Global, at: u32, n: u32, streams: &mut St
     if !guest.covers(at, n, Right::Write) {
         return tell(alloc, "not covered");
     }
+    guest.ready(at, n)?;
     match guest.fill_from(at, n, &mut streams.input) {
         Filled::Read(count) => Ok(Some(format!(in alloc; "read {count}")?)),
         Filled::Failed(count) => Ok(Some(format!(in alloc; "failed {count}")?)),

@@ -6,3 +6,4 @@ pub mod Moving
 pub mod Reaching
 pub mod RegisterLaws
 pub mod Running
+mod Storing

@@ -9,7 +9,7 @@ use Rattle.rv_run.specs.declared.stop.Stop.{Stop}
 use Rattle.rv_run.specs.declared.stop.Stop.TheVariants as stop
 use Rattle.guest_mem.specs.Filling.{TakesUpTo}
 use Rattle.rv_run.specs.Machine.{State, Action, Goes, Takes, Exits, Stops, Traps, action_of, counted}
-use Rattle.rv_run.specs.ImageRun.{ImageRun, Streams, writing_first, asking_first, ending, beginning, image_run, Leads, GoesOn, IsCutShort, IsReadCut, EndsBy, Performs, TakesNothing, IsKnown, given_of, LeavesInput, RunsWhole, Runs, EndsWithin}
+use Rattle.rv_run.specs.ImageRun.{ImageRun, Streams, writing_first, asking_first, ending, beginning, image_run, Leads, GoesOn, IsCutShort, IsStarved, IsReadCut, EndsBy, Performs, TakesNothing, IsKnown, given_of, LeavesInput, RunsWhole, Runs, EndsWithin}
 use Rattle.rv_run.proofs.Composing.{leads-none, leads-goes, leads-takes, leads-then, leads-run_on}
 
 -- What a run has done so far: these instructions led to this state; what they wrote was written, and what they left is left.
@@ -157,6 +157,18 @@ cut_short n m start s before now after given done (Exits status) is all so_far c
 cut_short n m start s before now after given done (Stops kind block offset width) is all so_far cut = absurd cut
 cut_short n m start s before now after given done (Traps kind) is all so_far cut = absurd cut
 
+-- memory was refused to the next instruction
+starved : (n m : ℕ) (start s : State) (before now after : Streams) (given : List ℕ) (done : ℕ) (action : Action) → action_of s ≡ action → n ≡ done + suc m
+    → SoFar start given done s before now → IsStarved action now after → AppendsFront before.written after.written (image_run n start given).written
+starved n m start s before now after given done (Goes bytes t) is all so_far cut = cut_short n m start s before now after given done (Goes bytes t) is all so_far cut
+starved n m start s before now after given done (Takes k f) is all so_far cut =
+    let later = (image_run (suc m) s so_far.rest).written in
+    let said : (image_run n start given).written ≡ so_far.front ++ later = ap (λ (r : ImageRun). r.written) (whole_from n (suc m) start s given done before now all so_far) in
+    rw (said, cut) (appends_front_longer before.written now.written so_far.front later (appends_front_whole before.written now.written so_far.front so_far.wrote))
+starved n m start s before now after given done (Exits status) is all so_far cut = absurd cut
+starved n m start s before now after given done (Stops kind block offset width) is all so_far cut = absurd cut
+starved n m start s before now after given done (Traps kind) is all so_far cut = absurd cut
+
 -- the source failed while the next instruction took from it
 read_cut : (n m : ℕ) (start s new : State) (before now after : Streams) (given : List ℕ) (done : ℕ) (action : Action) → n ≡ done + suc m
     → SoFar start given done s before now → IsReadCut action s new now after → AppendsFront before.written after.written (image_run n start given).written
@@ -179,7 +191,7 @@ ends_so n m start s new before now after given done (stop.StopCall kind block of
 ends_so n m start s new before now after given done (stop.Trap kind at) all known so_far then =
     ended_whole n m start s new before now after given done (stop.Trap kind at) all known so_far (rw (then.0, then.1) refl) then.2 then.3
 ends_so n m start s new before now after given done stop.WriteFault all known so_far then = cut_short n m start s before now after given done (action_of s) refl all so_far then.0
-ends_so n m start s new before now after given done stop.NoMemory all known so_far then = cut_short n m start s before now after given done (action_of s) refl all so_far then.0
+ends_so n m start s new before now after given done stop.NoMemory all known so_far then = starved n m start s before now after given done (action_of s) refl all so_far then.0
 ends_so n m start s new before now after given done stop.ReadFault all known so_far then = read_cut n m start s new before now after given done (action_of s) all so_far then
 ends_so n m start s new before now after given done stop.Steps all known so_far then = absurd then
 

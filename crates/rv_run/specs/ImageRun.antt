@@ -3,6 +3,11 @@ use Rattle.std.specs.Prelude.{◌≡◌, ℕ, zero, suc, ◌+◌, ◌<◌, ◌�
 use Rattle.fsc_outside.specs.Streams.{Appends, AppendsFront}
 use Rattle.rv_isa.specs.declared.inst.Inst.{Inst}
 use Rattle.rv_run.specs.declared.stop.TrapKind.{TrapKind}
+use Rattle.rv_run.specs.declared.stop.TrapKind.TheVariants as trap
+use Rattle.rv_run.specs.declared.stop.Refusal.{Refusal}
+use Rattle.rv_run.specs.declared.stop.Refusal.TheVariants as refusal
+use Rattle.guest_mem.specs.declared.fault.StoreNo.{StoreNo}
+use Rattle.guest_mem.specs.declared.fault.StoreNo.TheVariants as no
 use Rattle.rv_run.specs.declared.stop.Step.{Step}
 use Rattle.rv_run.specs.declared.stop.Step.TheVariants as step
 use Rattle.rv_run.specs.declared.stop.Stop.{Stop}
@@ -82,6 +87,15 @@ IsCutShort (Exits status) before after = ⊥
 IsCutShort (Stops kind block offset width) before after = ⊥
 IsCutShort (Traps kind) before after = ⊥
 
+-- memory was refused for what an instruction writes, after a front of it; or for the pages that it stores or fills, before
+-- anything was written or taken
+abbrev pub IsStarved : Action → (before after : Streams) → Type 0
+IsStarved (Goes bytes t) before after = (after.left ≡ before.left) × AppendsFront before.written after.written bytes
+IsStarved (Takes n t) before after = after ≡ before
+IsStarved (Exits status) before after = ⊥
+IsStarved (Stops kind block offset width) before after = ⊥
+IsStarved (Traps kind) before after = ⊥
+
 -- the source failed while an instruction took from it, and the buffer begins with what was taken
 abbrev pub IsReadCut : Action → (old new : State) (before after : Streams) → Type 0
 IsReadCut (Takes n t) old new before after =
@@ -98,7 +112,7 @@ EndsBy action (stop.Exit status) old new before after = (action ≡ Exits status
 EndsBy action (stop.StopCall kind block offset width) old new before after = (action ≡ Stops kind block offset width) × (new ≡ counted old) × (after ≡ before)
 EndsBy action (stop.Trap kind pc) old new before after = (action ≡ Traps kind) × (pc ≡ old.pc) × (new ≡ counted old) × (after ≡ before)
 EndsBy action stop.WriteFault old new before after = IsCutShort action before after × (new ≡ counted old)
-EndsBy action stop.NoMemory old new before after = IsCutShort action before after × (new ≡ counted old)
+EndsBy action stop.NoMemory old new before after = IsStarved action before after × (new ≡ counted old)
 EndsBy action stop.ReadFault old new before after = IsReadCut action old new before after
 EndsBy action stop.Steps old new before after = ⊥
 
@@ -107,10 +121,25 @@ abbrev pub Performs : Action → Step → (old new : State) (before after : Stre
 Performs action step.Next old new before after = GoesOn action new before after
 Performs action (step.Ended stop) old new before after = EndsBy action stop old new before after
 
+-- it goes on, and writes nothing
+abbrev pub GoesQuietly : Action → Type 0
+GoesQuietly (Goes bytes t) = bytes ≡ []
+GoesQuietly (Takes n t) = ⊥
+GoesQuietly (Exits status) = ⊥
+GoesQuietly (Stops kind block offset width) = ⊥
+GoesQuietly (Traps kind) = ⊥
+
 -- what an instruction that asks nothing of the outside leaves of the state
-abbrev pub MeetsRow : Action → (old new : State) → Result (Unit {0}) TrapKind → Type 0
+abbrev pub MeetsRow : Action → (old new : State) → Result (Unit {0}) Refusal → Type 0
 MeetsRow action old new (Ok _) = action ≡ Goes [] new
-MeetsRow action old new (Err kind) = (action ≡ Traps kind) × (new ≡ old)
+MeetsRow action old new (Err (refusal.Trap kind)) = (action ≡ Traps kind) × (new ≡ old)
+MeetsRow action old new (Err refusal.NoMemory) = GoesQuietly action × (new ≡ old)
+
+-- why a store that memory refuses does not go on
+abbrev pub store_refusal : StoreNo → Refusal
+store_refusal no.Misaligned = refusal.Trap trap.Misaligned
+store_refusal no.Outside = refusal.Trap trap.Store
+store_refusal no.NoMemory = refusal.NoMemory
 
 -- which instruction the state asks for
 abbrev pub FindsRow : State → Result Inst TrapKind → Type 0

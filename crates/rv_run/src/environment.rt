@@ -7,6 +7,7 @@ ghost use Rattle.rv_run.specs.ImageRun.{StopsBy, Performs, TakesNothing};
 
 use crate::machine::Machine;
 use crate::stop::{Step, Stop, TrapKind};
+use fsc_base::NoMemory;
 use fsc_outside::{Sink, Source, Wrote};
 use guest_mem::{Filled, Right};
 use rv_isa::Reg;
@@ -54,7 +55,8 @@ impl Machine {
         }
     }
 
-    /// Fills the x12 bytes at x11 from stream 0, until they are full or the input ends.
+    /// Fills the x12 bytes at x11 from stream 0, until they are full or the input ends. Their pages are made before, so that
+    /// want of memory takes nothing.
     fn read_call<S: Source>(&mut self, input: &mut S) -> Step
         requires { self.old.count + 1 < 2 ^ 64 }
         ensures row { (written : Option (List ℕ)) → Performs (read_call self.old) result self.old self.new
@@ -73,9 +75,12 @@ impl Machine {
         if !self.memory.covers(at, length, Right::Write) {
             return self.trap(TrapKind::Store);
         }
-        match self.memory.fill_from(at, length, input) {
-            Filled::Read(taken) => self.moved(taken),
-            Filled::Failed(_) => self.end(Stop::ReadFault),
+        match self.memory.ready(at, length) {
+            Ok(()) => match self.memory.fill_from(at, length, input) {
+                Filled::Read(taken) => self.moved(taken),
+                Filled::Failed(_) => self.end(Stop::ReadFault),
+            },
+            Err(NoMemory) => self.end(Stop::NoMemory),
         }
     }
 

@@ -8,7 +8,7 @@ ghost use Rattle.rv_run.specs.Machine.{start_of, action_of, row, counted, WordIs
 ghost use Rattle.rv_isa.specs.Encoding.{IsValid};
 ghost use Rattle.rv_run.specs.ImageRun.{FindsRow, Performs, Runs, TakesNothing, IsKnown, image_run, EndsWithin, EndsWhereReached};
 
-use crate::stop::{Step, Stop, TrapKind};
+use crate::stop::{Refusal, Step, Stop, TrapKind};
 use fsc_base::{Image, NoMemory};
 use fsc_outside::{Sink, Source};
 use guest_mem::{Fault, Guest};
@@ -28,18 +28,19 @@ pub struct Machine {
 
 impl Model for Machine {
     ghost use Rattle.std.specs.Prelude.{◌≡◌, ◌≤◌, slice_index};
+    ghost use Rattle.guest_mem.specs.Regions.{regions_of};
     ghost use Rattle.rv_run.specs.Machine.{State};
 
     ghost Value = { State };
 
-    ghost view = { λ m. record { registers = m.registers; pc = m.pc; memory = m.memory; marks = m.marks; count = m.count } };
+    ghost view = { λ m. record { registers = m.registers; pc = m.pc; memory = regions_of m.memory; marks = m.marks; count = m.count } };
 
     ghost invariant = { λ m. (slice_index m.registers 0 ≡ 0) × (m.marks ≤ m.count) };
 }
 
 impl Machine {
     /// A machine that stands at the entry of a sound image, with all registers zero and memory past a segment's bytes
-    /// zero. It takes the sizes of the segments in bytes. Refused only for want of memory.
+    /// zero. It takes the pages of the bytes that the segments give. Refused only for want of memory.
     pub fn new(alloc: Global, image: &Image) -> Result<Machine, NoMemory>
         requires { IsSound image.now }
         ensures { IfOk result (λ machine. machine ≡ start_of image.now) }
@@ -125,7 +126,7 @@ impl Machine {
     }
 
     /// Runs one instruction by its row. But for bytes that a failed read left, an instruction that ends the run leaves
-    /// registers, pc and memory as they were.
+    /// registers, pc and memory as they were, also where no memory is left for a page.
     pub fn step<S: Source, O: Sink>(&mut self, input: &mut S, out: &mut O) -> Step
         requires { self.old.count + 1 < 2 ^ 64 }
         ensures row { Performs (action_of self.old) result self.old self.new
@@ -162,7 +163,8 @@ impl Machine {
         }
         match self.follow(inst) {
             Ok(()) => Step::Next,
-            Err(kind) => self.trap(kind),
+            Err(Refusal::Trap(kind)) => self.trap(kind),
+            Err(Refusal::NoMemory) => self.end(Stop::NoMemory),
         }
     }
 

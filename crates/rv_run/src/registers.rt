@@ -1,15 +1,15 @@
 //! Registers, and the way from one instruction to the next.
 
-ghost use Rattle.std.specs.Prelude.{◌≡◌, ◌+◌, ◌^◌, ◌<◌, true, Ok, Err};
+ghost use Rattle.std.specs.Prelude.{◌≡◌, ◌+◌, ◌%◌, ◌^◌, ◌<◌, true, Ok, Err};
 ghost use Rattle.rv_run.specs.Machine.{value_of, with_register, following, counted, next, sum_of, offset_by, with_mark, arrives, links, branches, gives, addi, goes};
 ghost use Rattle.rv_run.specs.ImageRun.{MeetsRow};
 
 use crate::machine::Machine;
-use crate::stop::TrapKind;
+use crate::stop::{Refusal, TrapKind};
 use rv_isa::Reg;
 
-/// What came of an instruction: it went on, or the machine has no row for it.
-pub(crate) type Done = Result<(), TrapKind>;
+/// What came of an instruction: it went on, or why it did not.
+pub(crate) type Done = Result<(), Refusal>;
 
 impl Machine {
     /// What a register holds.
@@ -77,16 +77,25 @@ impl Machine {
         }
     }
 
+    /// Goes on at a target, a multiple of 4.
+    fn go_to(&mut self, target: u32)
+        requires counts { self.old.count + 1 < 2 ^ 64 }
+        requires aligned { target % 4 ≡ 0 }
+        ensures { arrives target self.old ≡ goes self.new }
+    {
+        self.pc = target;
+        self.count += 1;
+    }
+
     /// Goes on at a target, which has to be a multiple of 4.
     fn arrive(&mut self, target: u32) -> Done
         requires { self.old.count + 1 < 2 ^ 64 }
         ensures { MeetsRow (arrives target self.old) self.old self.new result }
     {
         if target % 4 != 0 {
-            return Err(TrapKind::Misaligned);
+            return Err(Refusal::Trap(TrapKind::Misaligned));
         }
-        self.pc = target;
-        self.count += 1;
+        self.go_to(target);
         Ok(())
     }
 
@@ -96,11 +105,12 @@ impl Machine {
         ensures { MeetsRow (links rd target self.old) self.old self.new result }
     {
         if target % 4 != 0 {
-            return Err(TrapKind::Misaligned);
+            return Err(Refusal::Trap(TrapKind::Misaligned));
         }
         let behind = self.pc.wrapping_add(4);
         self.set_register(rd, behind);
-        self.arrive(target)
+        self.go_to(target);
+        Ok(())
     }
 
     /// So many bytes from the pc, modulo 2^32.

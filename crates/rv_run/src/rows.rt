@@ -1,12 +1,12 @@
 //! The rows of instructions that load and store.
 
-ghost use Rattle.std.specs.Prelude.{◌≡◌, ◌≢◌, ◌+◌, ◌%◌, ◌^◌, ◌<◌};
+ghost use Rattle.std.specs.Prelude.{◌≡◌, ◌+◌, ◌%◌, ◌^◌, ◌<◌};
 ghost use Rattle.rv_run.specs.Machine.{sign_extended, load_trap, loads, stores, value_of};
-ghost use Rattle.rv_run.specs.ImageRun.{MeetsRow};
+ghost use Rattle.rv_run.specs.ImageRun.{MeetsRow, store_refusal};
 
 use crate::machine::Machine;
 use crate::registers::Done;
-use crate::stop::TrapKind;
+use crate::stop::{Refusal, TrapKind};
 use guest_mem::{Fault, StoreNo};
 use rv_isa::Reg;
 
@@ -44,16 +44,14 @@ fn load_trap(fault: Fault) -> TrapKind
     }
 }
 
-/// The trap of a refused store, which is never refused for want of memory.
-fn store_trap(refusal: StoreNo) -> TrapKind
-    requires { refusal ≢ StoreNo.NoMemory }
-    ensures misaligned { refusal ≡ StoreNo.Misaligned → result ≡ TrapKind.Misaligned }
-    ensures outside { refusal ≡ StoreNo.Outside → result ≡ TrapKind.Store }
+/// Why a refused store does not go on.
+fn store_refusal(refusal: StoreNo) -> Refusal
+    ensures { result ≡ store_refusal refusal }
 {
     match refusal {
-        StoreNo::Misaligned => TrapKind::Misaligned,
-        StoreNo::Outside => TrapKind::Store,
-        StoreNo::NoMemory => unreachable!(),
+        StoreNo::Misaligned => Refusal::Trap(TrapKind::Misaligned),
+        StoreNo::Outside => Refusal::Trap(TrapKind::Store),
+        StoreNo::NoMemory => Refusal::NoMemory,
     }
 }
 
@@ -65,7 +63,7 @@ impl Machine {
     {
         match self.memory.load8(self.sum(rs1, imm)) {
             Ok(value) => self.give(rd, extend8(value)),
-            Err(fault) => return Err(load_trap(fault)),
+            Err(fault) => return Err(Refusal::Trap(load_trap(fault))),
         }
         Ok(())
     }
@@ -77,7 +75,7 @@ impl Machine {
     {
         match self.memory.load16(self.sum(rs1, imm)) {
             Ok(value) => self.give(rd, extend16(value)),
-            Err(fault) => return Err(load_trap(fault)),
+            Err(fault) => return Err(Refusal::Trap(load_trap(fault))),
         }
         Ok(())
     }
@@ -89,7 +87,7 @@ impl Machine {
     {
         match self.memory.load32(self.sum(rs1, imm)) {
             Ok(value) => self.give(rd, value),
-            Err(fault) => return Err(load_trap(fault)),
+            Err(fault) => return Err(Refusal::Trap(load_trap(fault))),
         }
         Ok(())
     }
@@ -101,7 +99,7 @@ impl Machine {
     {
         match self.memory.load8(self.sum(rs1, imm)) {
             Ok(value) => self.give(rd, u32::from(value)),
-            Err(fault) => return Err(load_trap(fault)),
+            Err(fault) => return Err(Refusal::Trap(load_trap(fault))),
         }
         Ok(())
     }
@@ -113,7 +111,7 @@ impl Machine {
     {
         match self.memory.load16(self.sum(rs1, imm)) {
             Ok(value) => self.give(rd, u32::from(value)),
-            Err(fault) => return Err(load_trap(fault)),
+            Err(fault) => return Err(Refusal::Trap(load_trap(fault))),
         }
         Ok(())
     }
@@ -127,7 +125,7 @@ impl Machine {
         let value = (self.value(rs2) & 0xff) as u8;
         match self.memory.store8(at, value) {
             Ok(()) => self.advance(),
-            Err(refusal) => return Err(store_trap(refusal)),
+            Err(refusal) => return Err(store_refusal(refusal)),
         }
         Ok(())
     }
@@ -141,7 +139,7 @@ impl Machine {
         let value = (self.value(rs2) & 0xffff) as u16;
         match self.memory.store16(at, value) {
             Ok(()) => self.advance(),
-            Err(refusal) => return Err(store_trap(refusal)),
+            Err(refusal) => return Err(store_refusal(refusal)),
         }
         Ok(())
     }
@@ -155,7 +153,7 @@ impl Machine {
         let value = self.value(rs2);
         match self.memory.store32(at, value) {
             Ok(()) => self.advance(),
-            Err(refusal) => return Err(store_trap(refusal)),
+            Err(refusal) => return Err(store_refusal(refusal)),
         }
         Ok(())
     }

@@ -20,6 +20,15 @@ pub enum TrapKind {
     Call,
 }
 
+/// Why an instruction that asks nothing of the environment did not go on.
+#[derive(Clone, Copy, Debug, PartialEq, Eq)]
+pub(crate) enum Refusal {
+    /// The machine has no row for it.
+    Trap(TrapKind),
+    /// No memory was left for the page of a store.
+    NoMemory,
+}
+
 /// How a run ended.
 #[derive(Clone, Copy, Debug, PartialEq, Eq)]
 pub enum Stop {
@@ -43,7 +52,7 @@ pub enum Stop {
     ReadFault,
     /// The output refused a write.
     WriteFault,
-    /// The output had no memory for a write.
+    /// No memory was left: for the page of a store, for the buffer of a read, or in the output for a write.
     NoMemory,
 }
 

@@ -7,7 +7,7 @@ ghost use Rattle.rv_run.specs.ImageRun.{MeetsRow};
 
 use crate::machine::Machine;
 use crate::registers::Done;
-use crate::stop::TrapKind;
+use crate::stop::{Refusal, TrapKind};
 use rv_arith::{
     add, div, divu, mul, mulh, mulhsu, mulhu, rem, remu, sll, slt, sltu, sra, srl, sub,
 };
@@ -101,7 +101,7 @@ impl Machine {
             Inst::Rem { rd, rs1, rs2 } => self.give(rd, rem(self.value(rs1), self.value(rs2))),
             Inst::Remu { rd, rs1, rs2 } => self.give(rd, remu(self.value(rs1), self.value(rs2))),
             Inst::Fence { .. } => self.advance(),
-            Inst::Ebreak => return Err(TrapKind::Break),
+            Inst::Ebreak => return Err(Refusal::Trap(TrapKind::Break)),
             Inst::Ecall => unreachable!(),
         }
         Ok(())

@@ -1,0 +1,2 @@
+mod Noting
+pub mod Sorting
