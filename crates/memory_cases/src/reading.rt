@@ -26,7 +26,7 @@ fn kind_of(word: &str) -> Result<BlockKind, NoStep> {
 }
 
 /// The virtual base of a block, or 0 where none was made.
-fn base_in(bases: &[u32], block: u32) -> u32 {
+pub fn base_in(bases: &[u32], block: u32) -> u32 {
     match block.checked_sub(1) {
         Some(index) => bases.get(index as usize).copied().unwrap_or(0),
         None => 0,

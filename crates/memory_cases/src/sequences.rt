@@ -1,6 +1,7 @@
 //! Sequences of calls without a pattern, on blocks of every form: both kinds of memory have to answer them alike.
 
 use crate::call::Call;
+use crate::reading::base_in;
 use crate::told::{Told, tell};
 use crate::twins::Twins;
 use c_memory::BlockKind;
@@ -43,13 +44,9 @@ impl Numbers {
     /// A word near a block's bytes, or of a block that was not made.
     fn word(&mut self, bases: &[u32], lowest: u32, limit: u32) -> Word {
         let block = self.below(11);
-        let base = match block.checked_sub(1) {
-            Some(index) => bases.get(index as usize).copied().unwrap_or(0),
-            None => 0,
-        };
         let offset = self.below(limit).wrapping_sub(lowest);
         Word {
-            value: base.wrapping_add(offset),
+            value: base_in(bases, block).wrapping_add(offset),
             block,
         }
     }

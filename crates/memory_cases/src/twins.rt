@@ -1,7 +1,7 @@
 //! Blocks of bytes and cells, side by side.
 
 use crate::call::Call;
-use crate::reading::call_of;
+use crate::reading::{base_in, call_of};
 use crate::told::{Told, tell};
 use crate::{blocks, cells};
 use byte_blocks::Heap;
@@ -107,12 +107,8 @@ impl Twins {
         limit: u32,
     ) -> Result<Option<u32>, NoStep> {
         for offset in 0..limit {
-            let base = match block.checked_sub(1) {
-                Some(index) => self.bases.get(index as usize).copied().unwrap_or(0),
-                None => 0,
-            };
             let at = Word {
-                value: base.wrapping_add(offset),
+                value: base_in(&self.bases, block).wrapping_add(offset),
                 block,
             };
             for width in [Width::One, Width::Two, Width::Four] {
