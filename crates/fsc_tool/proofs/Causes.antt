@@ -238,11 +238,17 @@ bad_image_by made said marks words told kept before after fault offset (image_ra
     elim (of_image (image_at run.bytes) run.steps run.stats said marks kept before after run.runs) [
       | inl ended ↦ absurd (not_run_malformed said fault offset ended same)
       | inr (f, o, bytes, is) ↦
-        let one : BadImage f o ≡ BadImage fault offset = sym is ∙ same in
-        let e : f ≡ fault = cc in
-        let k : o ≡ offset = cc in
-        (run.file, run.steps, run.stats, run.bytes, run.request, run.text,
-        subst (λ (n : ℕ). image_at run.bytes ≡ Err (elf.Bad fault n)) k (subst (λ (x : ElfFault). image_at run.bytes ≡ Err (elf.Bad x o)) e bytes))
+          let one : BadImage f o ≡ BadImage fault offset = sym is ∙ same in
+          let e : f ≡ fault = cc in
+          let k : o ≡ offset = cc in (
+            run.file,
+            run.steps,
+            run.stats,
+            run.bytes,
+            run.request,
+            run.text,
+            subst (λ (n : ℕ). image_at run.bytes ≡ Err (elf.Bad fault n)) k (subst (λ (x : ElfFault). image_at run.bytes ≡ Err (elf.Bad x o)) e bytes),
+          )
     ]
 
 pub bad_image : (ending : Ending) (made : Option Image) (said : Ending) (marks : Option ℕ) (words : List (List ℕ)) (told : Option FileMap) (kept : Type 0) (before after : Streams)
