@@ -1,3 +1,4 @@
+pub mod BoundLaws
 pub mod Calls
 pub mod Faults
 pub mod FaultLaws

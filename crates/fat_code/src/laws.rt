@@ -1,5 +1,6 @@
 //! The laws of fat code.
 
+ghost use Rattle.fat_code.specs.BoundLaws.{FunctionsAreBounded, ShapesAreLeast, ShapesAreFew};
 ghost use Rattle.fat_code.specs.FaultLaws.{HeightsOfCode, SoundUnits, TypeFaults, HeadFaults, OpFaults, ObjectFaults};
 ghost use Rattle.fat_code.specs.RunLaws.{RunsSeven, RunsSum, RunsBehind, RunsEcho, RunsAllocated, RunsToEnds};
 
@@ -26,4 +27,12 @@ pub fn programs_are_run()
     ensures echo { RunsEcho }
     ensures allocated { RunsAllocated }
     ensures ends { RunsToEnds }
+{}
+
+/// What each unit without faults is bound by: its functions have slots for their parameters, and no more operations and entry
+/// blocks than its nodes allow; its shapes are in their least period, and few.
+pub fn units_are_bounded()
+    ensures functions { FunctionsAreBounded }
+    ensures shapes { ShapesAreLeast }
+    ensures few { ShapesAreFew }
 {}

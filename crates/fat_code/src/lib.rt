@@ -9,7 +9,7 @@ mod program;
 mod unit;
 
 pub use fault::{UnitFault, Version};
-pub use laws::{code_has_heights, faults_are_told, programs_are_run};
+pub use laws::{code_has_heights, faults_are_told, programs_are_run, units_are_bounded};
 pub use op::Op;
 pub use program::{BlockList, BlockLists, FatProgram, ProgramParts};
 pub use unit::{
