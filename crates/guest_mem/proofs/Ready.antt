@@ -2,7 +2,7 @@
 use Rattle.std.proofs.Common.{◌≡◌, ◌≢◌, ℕ, zero, suc, ◌+◌, ◌-◌, ◌<◌, ◌≤◌, ◌⊎◌, inl, inr, Bool, true, false, cond, ltb, leb, not, List, [], ◌∷◌, length, map, set, get_or, position, Option, Some, None, is_some, refl, sym, ap, subst, ◌∙◌, arith}
 use Rattle.std.specs.Prelude.{IsTrue, is_ok, All, ◌/◌, ◌%◌, ◌==◌, nat_le, ◌&&◌}
 use Rattle.std.specs.List.{position_or_len}
-use Rattle.std.proofs.lemmas.Bool.{cases_eq, cases_lt}
+use Rattle.std.proofs.lemmas.Bool.{cases_eq, cases_lt, cases_Bool, lt-ltb}
 use Rattle.std.proofs.lemmas.Bool.Decides.{nat_tests}
 use Rattle.std.proofs.lemmas.List.{length-map, map-set, get_or-map, get_or-set_same, get_or-set_other, get_or_default, length-set}
 use Rattle.std.proofs.lemmas.List.Elements.{All-get_or, All-set, All-from_get_or}
@@ -220,3 +220,41 @@ stays_same old new made i was = subst (λ (l : List Bool). IsTrue (get_or l i fa
 
 pub stays_all : (memory : List Paged) → StaysReady memory memory
 stays_all memory at n ready = ready
+
+-- ---- looking from the last region on
+
+first_of : (memory : List Paged) (right : Right) (at n i : ℕ) (d : Paged) → AllApart (regions_of memory) → 0 < n → i < length memory
+    → contains (get_or memory i d).region right at n ≡ true → position_or_len (serving right at n) memory ≡ i
+first_of [] right at n i d apart some inside has = absurd (omega arith)
+first_of (paged ∷ memory) right at n zero d apart some inside has = rw has refl
+first_of (paged ∷ memory) right at n (suc i) d apart some inside has =
+    let behind' : i < length memory = omega arith in
+    let long : length (regions_of memory) ≡ length memory = length-map memory (λ (p : Paged). p.region) in
+    let beside : Apart paged.region (get_or memory i d).region =
+    subst (λ (r : Region). Apart paged.region r) (get_or-map (λ (p : Paged). p.region) memory i d d.region behind') (apart.0 i d.region (omega arith)) in
+    let there = within_served (get_or memory i d).region right at n has in
+    let lacks : contains paged.region right at n ≡ false =
+    elim (cases_Bool (contains paged.region right at n)) [
+      | inl also ↦ absurd (let here = within_served paged.region right at n also in elim beside [ inl before ↦ omega arith | inr behind ↦ omega arith ])
+      | inr lacks ↦ lacks
+    ] in
+    rw lacks (omega (arith, first_of memory right at n i d apart.1 some behind' has))
+
+pub found_alone : (memory : List Paged) (right : Right) (at n i : ℕ) (d : Paged) → AllApart (regions_of memory) → 0 < n → i < length memory
+    → contains (get_or memory i d).region right at n ≡ true → position (serving right at n) memory ≡ Some i
+found_alone memory right at n i d apart some inside has =
+    let first = first_of memory right at n i d apart some inside has in
+    ap (λ (k : ℕ). cond (ltb k (length memory)) (Some k) None) first ∙ ap (λ (b : Bool). cond b (Some i) None) (lt-ltb i (length memory) inside)
+
+none_of : (memory : List Paged) (right : Right) (at n : ℕ) (d : Paged) → ((k : ℕ) → k < length memory → contains (get_or memory k d).region right at n ≡ false)
+    → position_or_len (serving right at n) memory ≡ length memory
+none_of [] right at n d none = refl
+none_of (paged ∷ memory) right at n d none =
+    let lacks : contains paged.region right at n ≡ false = none 0 (omega arith) in
+    rw lacks (omega (arith, none_of memory right at n d (λ (k : ℕ) (lt : k < length memory). none (suc k) (omega arith))))
+
+pub not_found : (memory : List Paged) (right : Right) (at n : ℕ) (d : Paged) → ((k : ℕ) → k < length memory → contains (get_or memory k d).region right at n ≡ false)
+    → position (serving right at n) memory ≡ None
+not_found memory right at n d none =
+    ap (λ (k : ℕ). cond (ltb k (length memory)) (Some k) None) (none_of memory right at n d none)
+    ∙ (let same : ltb (length memory) (length memory) ≡ false = grind (arith, nat_tests) in ap (λ (b : Bool). cond b (Some (length memory)) None) same)

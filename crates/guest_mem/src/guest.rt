@@ -48,9 +48,33 @@ pub(crate) fn place_of(regions: &[PagedRegion], right: Right, at: u32, n: usize)
         .position(|region| region.contains(right, at, n))
 }
 
+/// The index of the region that has `n` bytes from the address `at` on and gives the right; no other has them. Code is looked
+/// for from the first one on, and all else from the last one on: there the heap and the stack stand.
+#[inline]
+fn find(regions: &[PagedRegion], right: Right, at: u32, n: usize) -> Option<usize>
+    requires apart { AllApart (regions_of regions.now) }
+    requires some { 0 < n }
+    requires few { n < 2 ^ 63 }
+    ensures { result ≡ position (λ paged. contains paged.region right at n) regions.now }
+{
+    if right == Right::Execute {
+        return place_of(regions, right, at, n);
+    }
+    let mut index = regions.len();
+    while index > 0 {
+        index -= 1;
+        if regions[index].contains(right, at, n) {
+            return Some(index);
+        }
+    }
+    None
+}
+
 /// `n` bytes from the address `at` on, all in one page, where one region has them all and gives the right. None where
 /// their page was not made: then they are zero.
+#[inline]
 fn part_in(regions: &[PagedRegion], right: Right, at: u32, n: usize) -> Option<&[u8]>
+    requires apart { AllApart (regions_of regions.now) }
     requires some { 0 < n }
     requires page { at % 4096 + n ≤ 4096 }
     ensures number { MatchOption result
@@ -58,7 +82,7 @@ fn part_in(regions: &[PagedRegion], right: Right, at: u32, n: usize) -> Option<&
         (λ bytes. number_in (bytes_at (regions_of regions.now) right at n) ≡ Ok (little_endian bytes.now)) }
     ensures length { IfSome result (λ bytes. (length bytes.now ≡ 0) ⊎ (length bytes.now ≡ n)) }
 {
-    let Some(place) = place_of(regions, right, at, n) else {
+    let Some(place) = find(regions, right, at, n) else {
         return None;
     };
     Some(regions[place].in_page(at, n))
@@ -66,7 +90,9 @@ fn part_in(regions: &[PagedRegion], right: Right, at: u32, n: usize) -> Option<&
 
 /// The number that the four bytes at the address `at` spell, where it is a multiple of 4 and one region has them all and
 /// gives the right.
+#[inline]
 fn word_in(regions: &[PagedRegion], right: Right, at: u32) -> Result<u32, Fault>
+    requires { AllApart (regions_of regions.now) }
     ensures { result ≡ number_at 4 (regions_of regions.now) right at }
 {
     if at % 4 != 0 {
@@ -80,12 +106,14 @@ fn word_in(regions: &[PagedRegion], right: Right, at: u32) -> Result<u32, Fault>
 }
 
 /// Puts bytes where one region has as many from the address `at` on, in one page, and may be written.
+#[inline]
 fn store_in(
     regions: &mut [PagedRegion],
     alloc: Global,
     at: u32,
     bytes: &[u8],
 ) -> Result<(), StoreNo>
+    requires apart { AllApart (regions_of regions.old) }
     requires some { 0 < length bytes.now }
     requires page { at % 4096 + length bytes.now ≤ 4096 }
     ensures stores { Stores (memory_in (with_bytes (regions_of regions.old) at bytes.now)) (regions_of regions.old) (regions_of regions.new) result }
@@ -93,7 +121,7 @@ fn store_in(
     ensures kept { StaysReady regions.old regions.new }
     ensures laid { layout (regions_of regions.new) ≡ layout (regions_of regions.old) }
 {
-    let Some(place) = place_of(regions, Right::Write, at, bytes.len()) else {
+    let Some(place) = find(regions, Right::Write, at, bytes.len()) else {
         return Err(StoreNo::Outside);
     };
     match regions[place].store(alloc, at, bytes) {
@@ -150,6 +178,7 @@ impl Guest {
 
     /// The byte at the address `at`. Refused with `Outside`, exactly where no region that may be read has it.
     #[tactic(auto, unfolding(crate::specs::Guest::loaded))]
+    #[inline]
     pub fn load8(&self, at: u32) -> Result<u8, Fault>
         ensures { result ≡ loaded 1 (regions_of self.now) at }
     {
@@ -163,6 +192,7 @@ impl Guest {
     /// The two bytes at the address `at`, the lowest first. Refused with `Misaligned` exactly where `at` is odd, else with
     /// `Outside` exactly where the bytes do not both lie in one region that may be read.
     #[tactic(auto, unfolding(crate::specs::Guest::loaded))]
+    #[inline]
     pub fn load16(&self, at: u32) -> Result<u16, Fault>
         ensures { result ≡ loaded 2 (regions_of self.now) at }
     {
@@ -179,6 +209,7 @@ impl Guest {
     /// The four bytes at the address `at`, the lowest first. Refused with `Misaligned` exactly where `at` is no multiple
     /// of 4, else with `Outside` exactly where the bytes do not all lie in one region that may be read.
     #[tactic(auto, unfolding(crate::specs::Guest::loaded))]
+    #[inline]
     pub fn load32(&self, at: u32) -> Result<u32, Fault>
         ensures { result ≡ loaded 4 (regions_of self.now) at }
     {
@@ -188,6 +219,7 @@ impl Guest {
     /// The four bytes at the address `at`, the lowest first. Refused with `Misaligned` exactly where `at` is no multiple
     /// of 4, else with `Outside` exactly where the bytes do not all lie in one region that may be executed.
     #[tactic(auto, unfolding(crate::specs::Guest::fetched))]
+    #[inline]
     pub fn fetch(&self, at: u32) -> Result<u32, Fault>
         ensures { result ≡ fetched (regions_of self.now) at }
     {
@@ -197,6 +229,7 @@ impl Guest {
     /// Makes `value` the byte at the address `at`. Refused, with nothing changed, with `Outside` exactly where no region
     /// that may be written has it; else with `NoMemory` only where memory is wanted for its page.
     #[tactic(auto, unfolding(crate::specs::Guest::stored))]
+    #[inline]
     pub fn store8(&mut self, at: u32, value: u8) -> Result<(), StoreNo>
         ensures stores { Stores (stored 1 (regions_of self.old) at value) (regions_of self.old) (regions_of self.new) result }
         ensures ready { IsReady self.old at 1 → result ≢ Err StoreNo.NoMemory }
@@ -209,6 +242,7 @@ impl Guest {
     /// `Misaligned` exactly where `at` is odd, else with `Outside` exactly where the bytes do not both lie in one region
     /// that may be written; else with `NoMemory` only where memory is wanted for their page.
     #[tactic(auto, unfolding(crate::specs::Guest::stored))]
+    #[inline]
     pub fn store16(&mut self, at: u32, value: u16) -> Result<(), StoreNo>
         ensures stores { Stores (stored 2 (regions_of self.old) at value) (regions_of self.old) (regions_of self.new) result }
         ensures ready { IsReady self.old at 2 → result ≢ Err StoreNo.NoMemory }
@@ -224,6 +258,7 @@ impl Guest {
     /// `Misaligned` exactly where `at` is no multiple of 4, else with `Outside` exactly where the bytes do not all lie in
     /// one region that may be written; else with `NoMemory` only where memory is wanted for their page.
     #[tactic(auto, unfolding(crate::specs::Guest::stored))]
+    #[inline]
     pub fn store32(&mut self, at: u32, value: u32) -> Result<(), StoreNo>
         ensures stores { Stores (stored 4 (regions_of self.old) at value) (regions_of self.old) (regions_of self.new) result }
         ensures ready { IsReady self.old at 4 → result ≢ Err StoreNo.NoMemory }
@@ -236,6 +271,7 @@ impl Guest {
     }
 
     /// Puts these bytes at the address `at`, all in one page.
+    #[inline]
     fn store(&mut self, at: u32, bytes: &[u8]) -> Result<(), StoreNo>
         requires some { 0 < length bytes.now }
         requires page { at % 4096 + length bytes.now ≤ 4096 }
