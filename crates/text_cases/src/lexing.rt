@@ -3,7 +3,7 @@
 use crate::refusals::refusal_told;
 use c_lexer::{Token, TokenKind, Tokens, tokens};
 use case_file::{CaseNo, Field};
-use fsc_base::{Bytes, Place, Refused};
+use fsc_base::{Bytes, Place};
 use pp_token::{HideSet, Names, PpKind, PpToken, PpTokens, PpUnit, pp_tokens};
 use std::alloc::{AllocError, Global};
 

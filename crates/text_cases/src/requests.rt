@@ -3,7 +3,7 @@
 use crate::refusals::no_memory;
 use case_file::{CaseNo, Field};
 use command_line::{Names, Request, WordsNo, request_of};
-use fsc_base::{Bytes, Name, NoMemory};
+use fsc_base::{Name, NoMemory};
 use plain_text::decimal_number;
 use std::alloc::{AllocError, Global};
 
