@@ -1,6 +1,5 @@
 -- Lines that are written one after another.
-use Rattle.std.proofs.Common.{◌≡◌, ℕ, ◌+◌, ◌<◌, inl, inr, List, [], ◌∷◌, ◌++◌, length, take, Option, refl, length-append, arith}
-use Rattle.std.proofs.lemmas.List.{take-append-le}
+use Rattle.std.proofs.Common.{ℕ, ◌<◌, inl, inr, List, [], ◌∷◌, length, Option, refl, length-append, arith}
 use Rattle.fsc_outside.specs.Streams.{Appends, AppendsPart}
 use Rattle.fsc_outside.proofs.Appending.{appends_nothing, appends_then, appends_part_then, appends_part_longer}
 use Rattle.fsc_ending.specs.declared.ending.Ending.{Ending}

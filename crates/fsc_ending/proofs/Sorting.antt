@@ -1,10 +1,10 @@
 -- What sort the ending of a run is.
-use Rattle.std.proofs.Common.{◌≡◌, ℕ, ◌==◌, ◌⊎◌, if◌then◌else◌, inl, inr, Bool, true, false, refl}
+use Rattle.std.proofs.Common.{◌≡◌, ℕ, ◌==◌, if◌then◌else◌, inl, inr, Bool, true, false, refl}
 use Rattle.rv_run.specs.declared.stop.Stop.{Stop}
 use Rattle.rv_run.specs.declared.stop.Stop.TheVariants as stop
 use Rattle.fsc_ending.specs.declared.ending.Ending.{Ending}
 use Rattle.fsc_ending.specs.Ending.{stopped_as, ending_of}
-use Rattle.fsc_ending.specs.Sort.{Sort, ran, sort_of, IsOfSort}
+use Rattle.fsc_ending.specs.Sort.{ran, sort_of, IsOfSort}
 
 either : (test : Bool) (this other : Ending) → sort_of this ≡ ran → sort_of other ≡ ran → sort_of (if test then this else other) ≡ ran
 either true this other first second = first
