@@ -1,5 +1,5 @@
 -- What it means that the tool ran an image.
-use Rattle.std.specs.Prelude.{◌≡◌, ℕ, ◌⊎◌, List, Bool, Option, Some, None, Result, Ok, Err}
+use Rattle.std.specs.Prelude.{◌≡◌, ◌≢◌, ℕ, ◌⊎◌, List, Bool, Option, Some, None, Result, Ok, Err}
 use Rattle.fsc_base.specs.declared.image.Image.{Image}
 use Rattle.fsc_outside.specs.declared.source.Source.{Ghosts as SourceGhosts}
 use Rattle.fsc_outside.specs.declared.sink.Sink.{Ghosts as SinkGhosts}
@@ -9,8 +9,9 @@ use Rattle.elf_image.specs.declared.fault.ReadElfNo.{ReadElfNo}
 use Rattle.elf_image.specs.declared.fault.ReadElfNo.TheVariants as elf
 use Rattle.elf_image.specs.Reading.{image_at}
 use Rattle.rv_run.specs.declared.stop.Stop.{Stop}
+use Rattle.rv_run.specs.declared.stop.Stop.TheVariants as stop
 use Rattle.rv_run.specs.Machine.{State, start_of}
-use Rattle.rv_run.specs.ImageRun.{Streams, image_run, IsKnown, Runs}
+use Rattle.rv_run.specs.ImageRun.{Streams, image_run, IsKnown, Runs, EndsWithin, EndsWhereReached}
 use Rattle.fsc_ending.specs.declared.ending.Ending.{Ending}
 use Rattle.fsc_ending.specs.declared.ending.Ending.TheVariants.{BadImage, NoMemory}
 use Rattle.fsc_ending.specs.Ending.{ending_of, told_marks}
@@ -20,14 +21,17 @@ use Rattle.fsc_run.specs.Reading.{RefusesRead}
 abbrev pub streams_of : {S O : Type 0} → SourceGhosts S → SinkGhosts O → (input : S) (out : O) → Streams
 streams_of source sink input out = record { left = source.left input; written = sink.written out }
 
--- A machine ran from that state, at most so many instructions: it stopped as the run does over each input that the source
--- may have, and the answer and the marks are those of that stop.
+-- A machine ran from that state, at most so many instructions, and the answer and the marks are those of how it stopped:
+-- over each input that the source may have it stopped as the run does, and where that is not the bound, some of the
+-- instructions ran whole and the next one ended it; over any source it stopped where it came to.
 pub record RanFrom (start : State) (steps : ℕ) (stats : Bool) (ending : Ending) (marks : Option ℕ) (before after : Streams) : Type 0 where
   pub stopped : Stop
   pub machine : State
   pub answer : ending ≡ ending_of steps stopped
   pub marked : marks ≡ told_marks stats stopped machine.marks
   pub runs : (given : List ℕ) → IsKnown before.left given (image_run steps start given).asked → Runs (image_run steps start given) stopped machine before after
+  pub ended : (given : List ℕ) → IsKnown before.left given (image_run steps start given).asked → stopped ≢ stop.Steps → EndsWithin steps start machine given stopped before after
+  pub reached : EndsWhereReached steps start machine stopped before after
 
 -- Nothing ran: no marks are told, and the input and the output are as they were. `kept` says so of the objects themselves,
 -- which holds also where they don't tell.
