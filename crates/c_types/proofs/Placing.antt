@@ -4,7 +4,7 @@ use Rattle.std.proofs.Math.Seq.{drop-cons}
 use Rattle.std.proofs.lemmas.List.{map-append}
 use Rattle.c_types.specs.declared.record.PartOf.{PartOf}
 use Rattle.c_types.specs.declared.record.Place.{Place}
-use Rattle.c_types.specs.Layouts.{Part, Placed, placed, offset_of, end_at, align_of_part, struct_places, struct_end, union_end, greatest_align}
+use Rattle.c_types.specs.Layouts.{Part, Placed, placed, offset_of, end_at, struct_places, struct_end, union_end, greatest_align}
 use Rattle.c_types.specs.Built.{IsModest}
 use Rattle.c_types.specs.Parts.{part_in, parts_in, place_in, places_in, AreModest}
 

@@ -3,7 +3,7 @@
 ghost use Rattle.std.specs.Prelude.{◌≡◌, ℕ, ◌+◌, ◌*◌, ◌<◌, ◌≤◌, ◌++◌, ◌∷◌, [], ◌↔◌, length, slice_get, true, false, Some, None, Err, IsSome, IsSomeAnd, IfOk, OnOk, OnErr};
 ghost use Rattle.std.specs.Option.{option_copied, option_map};
 ghost use Rattle.c_types.specs.Built.{IsBuilt, IsNext, is_unqualified};
-ghost use Rattle.c_types.specs.Building.{number_of, index_of, with_node};
+ghost use Rattle.c_types.specs.Building.{number_of, index_of, is_incomplete, with_completed, with_node};
 ghost use Rattle.c_types.specs.Layouts.{layout_of, layout_in, size_of, align_of, kinds_of, members_in, members_of, member_of, members_of_record, parts_of, record_layout};
 ghost use Rattle.c_types.specs.Nodes.{presets, node_at};
 ghost use Rattle.c_types.specs.Numbered.{node_of};
@@ -322,6 +322,18 @@ impl TypeTable {
         ensures members { IfOk result (λ r. members_of_record is_union (parts_of (layout_of self.now) fields.now) ≡ r.1) }
     {
         self.nodes.lay_out(is_union, fields.as_slice())
+    }
+
+    /// Makes an incomplete struct or union complete, with these fields; all other types of the table stay. Refused where it is none,
+    /// where a field is of no complete object type, or where it would be larger than 2^27 bytes; all stays then as it was.
+    pub fn complete(&mut self, id: TypeId, fields: Fields) -> Result<(), LayoutNo>
+        ensures completed { OnOk result (self.new ≡ with_completed self.old id fields) }
+        ensures incomplete { OnOk result (is_incomplete (node_at self.old id) ≡ true) }
+        ensures layout { OnOk result (IsSome (parts_of (layout_of self.old) fields)) }
+        ensures err { OnErr result (self.new ≡ self.old) }
+    {
+        self.nodes.complete(id, fields)?;
+        Ok(())
     }
 
     /// The member of a struct or union that has that name. It takes no memory.

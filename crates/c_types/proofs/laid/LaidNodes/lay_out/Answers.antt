@@ -1,5 +1,3 @@
-use Rattle.c_types.specs.Layouts.{parts_of, layout_of}
-use Rattle.c_types.specs.Parts.{parts_in}
 use Rattle.c_types.proofs.Collecting.{modest_parts}
 use Rattle.c_types.proofs.laid.LaidNodes.lay_out.Goals as goal
 
