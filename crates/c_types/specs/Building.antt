@@ -1,12 +1,15 @@
 -- Tables that are built node by node: each pointer, array, function and qualified type stands in them once, so that the same type
 -- is the same number.
-use Rattle.std.specs.Prelude.{ℕ, nat_lt, ◌&&◌, not, Bool, true, false, if◌then◌else◌, List, [], ◌∷◌, ◌++◌, length, nat_eq, slice_set, Option, Some, None}
+use Rattle.std.specs.Prelude.{◌≡◌, ℕ, nat_lt, ◌&&◌, not, Bool, true, false, if◌then◌else◌, List, [], ◌∷◌, ◌++◌, length, nat_eq, slice_set, Option, Some, None}
 use Rattle.std.specs.List.{position_or_len}
 use Rattle.std.specs.Cmp.Lexicographic.{pointwise}
+use Rattle.c_types.specs.declared.layout.LayoutNo.{LayoutNo}
+use Rattle.c_types.specs.declared.layout.LayoutNo.TheVariants as no
 use Rattle.c_types.specs.declared.node.Field.{Field}
 use Rattle.c_types.specs.declared.node.TypeNode.{TypeNode}
 use Rattle.c_types.specs.declared.node.TypeNode.TheVariants.{Void, Basic as Arithmetic, Pointer, Array, Function, Struct, Union, Enum, Qualified}
 use Rattle.c_types.specs.Nodes.{node_at}
+use Rattle.c_types.specs.Layouts.{layout_of, size_of_fields, IsReason}
 
 abbrev pub same_test : (one other : Bool) → Bool
 same_test true other = other
@@ -127,3 +130,10 @@ completed fields (Qualified of bits) = Qualified of bits
 
 abbrev pub with_completed : List TypeNode → (id : ℕ) → List Field → List TypeNode
 with_completed nodes id fields = slice_set nodes id (completed fields (node_at nodes id))
+
+-- what it means that type `id` cannot be completed with these fields
+abbrev pub IsReasonAt : List TypeNode → (id : ℕ) → List Field → LayoutNo → Type 0
+IsReasonAt nodes id fields no.NotIncomplete = is_incomplete (node_at nodes id) ≡ false
+IsReasonAt nodes id fields no.Part = (is_incomplete (node_at nodes id) ≡ true) × IsReason (size_of_fields (is_union (node_at nodes id)) (layout_of nodes) fields) no.Part
+IsReasonAt nodes id fields no.Large = (is_incomplete (node_at nodes id) ≡ true) × IsReason (size_of_fields (is_union (node_at nodes id)) (layout_of nodes) fields) no.Large
+IsReasonAt nodes id fields no.NoMemory = is_incomplete (node_at nodes id) ≡ true

@@ -1,10 +1,10 @@
 //! A unit's types.
 
-ghost use Rattle.std.specs.Prelude.{◌≡◌, ℕ, ◌+◌, ◌*◌, ◌<◌, ◌≤◌, ◌++◌, ◌∷◌, [], ◌↔◌, length, slice_get, true, false, Some, None, Err, IsSome, IsSomeAnd, IfOk, OnOk, OnErr};
+ghost use Rattle.std.specs.Prelude.{◌≡◌, ℕ, ◌+◌, ◌*◌, ◌<◌, ◌≤◌, ◌++◌, ◌∷◌, [], ◌↔◌, length, slice_get, true, false, Some, None, Err, IsSomeAnd, IfOk, IfErr, OnOk, OnErr};
 ghost use Rattle.std.specs.Option.{option_copied, option_map};
 ghost use Rattle.c_types.specs.Built.{IsBuilt, IsNext, is_unqualified};
-ghost use Rattle.c_types.specs.Building.{number_of, index_of, is_incomplete, with_completed, with_node};
-ghost use Rattle.c_types.specs.Layouts.{layout_of, layout_in, size_of, align_of, kinds_of, members_in, members_of, member_of, members_of_record, parts_of, record_layout};
+ghost use Rattle.c_types.specs.Building.{number_of, index_of, is_incomplete, is_union, with_completed, with_node, IsReasonAt};
+ghost use Rattle.c_types.specs.Layouts.{layout_of, layout_in, size_of, align_of, kinds_of, members_in, members_of, member_of, members_of_record, parts_of, record_layout, size_of_fields, IsReason};
 ghost use Rattle.c_types.specs.Nodes.{presets, node_at};
 ghost use Rattle.c_types.specs.Numbered.{node_of};
 
@@ -320,6 +320,7 @@ impl TypeTable {
     pub fn lay_out(&self, is_union: bool, fields: &Fields) -> Result<(Layout, Members), LayoutNo>
         ensures layout { IfOk result (λ r. option_map (record_layout is_union) (parts_of (layout_of self.now) fields.now) ≡ Some r.0) }
         ensures members { IfOk result (λ r. members_of_record is_union (parts_of (layout_of self.now) fields.now) ≡ r.1) }
+        ensures refused { IfErr result (IsReason (size_of_fields is_union (layout_of self.now) fields.now)) }
     {
         self.nodes.lay_out(is_union, fields.as_slice())
     }
@@ -329,7 +330,8 @@ impl TypeTable {
     pub fn complete(&mut self, id: TypeId, fields: Fields) -> Result<(), LayoutNo>
         ensures completed { OnOk result (self.new ≡ with_completed self.old id fields) }
         ensures incomplete { OnOk result (is_incomplete (node_at self.old id) ≡ true) }
-        ensures layout { OnOk result (IsSome (parts_of (layout_of self.old) fields)) }
+        ensures size { OnOk result (IsSomeAnd (size_of_fields (is_union (node_at self.old id)) (layout_of self.old) fields) (λ size. size ≤ 134217728)) }
+        ensures refused { IfErr result (IsReasonAt self.old id fields) }
         ensures err { OnErr result (self.new ≡ self.old) }
     {
         self.nodes.complete(id, fields)?;
