@@ -1,6 +1,6 @@
 -- Tables that are built node by node: each pointer, array, function and qualified type stands in them once, so that the same type
 -- is the same number.
-use Rattle.std.specs.Prelude.{◌≡◌, ℕ, nat_lt, ◌&&◌, not, Bool, true, false, if◌then◌else◌, List, [], ◌∷◌, ◌++◌, length, nat_eq, slice_set, Option, Some, None}
+use Rattle.std.specs.Prelude.{◌≡◌, ℕ, nat_lt, ◌&&◌, not, Bool, true, false, if◌then◌else◌, List, [], ◌∷◌, ◌++◌, length, nat_eq, slice_set, bit_or, Option, Some, None}
 use Rattle.std.specs.List.{position_or_len}
 use Rattle.std.specs.Cmp.Lexicographic.{pointwise}
 use Rattle.c_types.specs.declared.layout.LayoutNo.{LayoutNo}
@@ -90,6 +90,35 @@ number_of nodes node = if nat_lt (index_of nodes node) (length nodes) then Some 
 -- a number outside the table is that of void
 abbrev pub within : List TypeNode → (id : ℕ) → ℕ
 within nodes id = if nat_lt id (length nodes) then id else 0
+
+-- ---- qualified types
+
+-- an array is not qualified itself: its elements are (C90 6.5.3)
+abbrev pub can_be_qualified : TypeNode → Bool
+can_be_qualified Void = true
+can_be_qualified (Arithmetic b) = true
+can_be_qualified (Pointer to) = true
+can_be_qualified (Array of count) = false
+can_be_qualified (Function returns is_known parameters is_variadic) = true
+can_be_qualified (Struct r) = true
+can_be_qualified (Union r) = true
+can_be_qualified (Enum tag) = true
+can_be_qualified (Qualified of bits) = true
+
+-- the qualified version of a type that is no array; further qualifiers are joined with its own (C90 6.1.2.5)
+abbrev pub version_in : (id bits : ℕ) → TypeNode → TypeNode
+version_in id bits Void = Qualified id bits
+version_in id bits (Arithmetic b) = Qualified id bits
+version_in id bits (Pointer to) = Qualified id bits
+version_in id bits (Array of count) = Qualified id bits
+version_in id bits (Function returns is_known parameters is_variadic) = Qualified id bits
+version_in id bits (Struct r) = Qualified id bits
+version_in id bits (Union r) = Qualified id bits
+version_in id bits (Enum tag) = Qualified id bits
+version_in id bits (Qualified of own) = Qualified of (bit_or bits own)
+
+abbrev pub version_of : List TypeNode → (id bits : ℕ) → TypeNode
+version_of nodes id bits = version_in id bits (node_at nodes id)
 
 -- ---- structs and unions that are completed
 

@@ -49,18 +49,6 @@ pub struct Record {
     pub fields: Fields,
 }
 
-impl Record {
-    ghost use Rattle.std.specs.Prelude.{◌≡◌, true};
-
-    /// Its members become known.
-    pub(crate) fn complete(&mut self, fields: Fields)
-        ensures { self.new ≡ record self.old { is_complete = true; fields = fields } }
-    {
-        self.is_complete = true;
-        self.fields = fields;
-    }
-}
-
 /// A type whose parts are other nodes of its table.
 #[derive(Debug, Drop)]
 pub enum TypeNode {
@@ -127,8 +115,14 @@ impl TypeNode {
         ensures { self.new ≡ completed fields self.old }
     {
         match self {
-            TypeNode::Struct(record) => record.complete(fields),
-            TypeNode::Union(record) => record.complete(fields),
+            TypeNode::Struct(record) => {
+                record.is_complete = true;
+                record.fields = fields;
+            }
+            TypeNode::Union(record) => {
+                record.is_complete = true;
+                record.fields = fields;
+            }
             TypeNode::Void
             | TypeNode::Basic(_)
             | TypeNode::Pointer(_)
