@@ -1,5 +1,5 @@
 -- A table in which a struct or union is completed.
-use Rattle.std.proofs.Common.{◌≡◌, ℕ, zero, suc, ◌+◌, ◌<◌, ◌≤◌, Bool, true, false, cond, List, [], ◌∷◌, length, get_or, set, Option, Some, None, IsSome, ◌⊎◌, inl, inr, refl, sym, ap, ◌∙◌, subst, arith}
+use Rattle.std.proofs.Common.{◌≡◌, ℕ, zero, suc, ◌+◌, ◌<◌, Bool, true, false, cond, List, [], ◌∷◌, length, set, Option, Some, None, IsSome, ◌⊎◌, inl, inr, refl, sym, ap, ◌∙◌, subst, arith}
 use Rattle.std.proofs.lemmas.Bool.{cases_lt}
 use Rattle.std.proofs.lemmas.List.{length-set, map-set}
 use Rattle.std.specs.Bool.{OnTrue}
@@ -16,7 +16,7 @@ use Rattle.c_types.specs.Layouts.{Layouts, Part, parts_of, members_in, members_o
 use Rattle.c_types.specs.Built.{IsBelow, IsMade, IsNormal, IsModest, IsBuilt, is_unqualified, takes_qualifiers}
 use Rattle.c_types.proofs.Keeping.{node-kept_at, length-nodes_of}
 use Rattle.c_types.proofs.Depths.{Knows, parts_known, layout_known, layout_by-suc, layout_by-zero, made_known}
-use Rattle.c_types.proofs.Pushed.{layout_step, settled_more}
+use Rattle.c_types.proofs.Pushed.{layout_step}
 
 abbrev pub changed : List TypeNode → (id : ℕ) → TypeNode → List TypeNode
 changed nodes id node = set nodes id node

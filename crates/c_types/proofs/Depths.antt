@@ -1,5 +1,5 @@
 -- Layouts by the layouts of their parts.
-use Rattle.std.proofs.Common.{◌≡◌, ℕ, zero, suc, ◌+◌, ◌<◌, ◌≤◌, Bool, true, false, cond, List, [], ◌∷◌, length, Option, Some, None, IsSome, refl, sym, ap, ◌∙◌, subst, arith}
+use Rattle.std.proofs.Common.{◌≡◌, ℕ, zero, suc, ◌<◌, ◌≤◌, Bool, true, false, cond, List, [], ◌∷◌, Option, Some, None, IsSome, refl, ap, ◌∙◌, arith}
 use Rattle.std.specs.Bool.{OnTrue}
 use Rattle.std.specs.Option.{option_map}
 use Rattle.c_types.specs.declared.layout.Layout.{Layout}
@@ -7,8 +7,8 @@ use Rattle.c_types.specs.declared.node.Field.{Field}
 use Rattle.c_types.specs.declared.node.TypeNode.{TypeNode}
 use Rattle.c_types.specs.declared.node.TypeNode.TheVariants.{Void, Basic as Arithmetic, Pointer, Array, Function, Struct, Union, Enum, Qualified}
 use Rattle.c_types.specs.Nodes.{node_at}
-use Rattle.c_types.specs.Layouts.{Layouts, Part, part, with_part, parts_of, layout_in, layout_by, layout_of, layout_of_array, record_layout, depth_of}
-use Rattle.c_types.specs.Built.{AreBelow, IsBelow, IsMade, HasParts}
+use Rattle.c_types.specs.Layouts.{Layouts, Part, part, with_part, parts_of, layout_in, layout_by, layout_of_array, record_layout}
+use Rattle.c_types.specs.Built.{AreBelow, IsBelow, IsMade}
 
 -- two tables of layouts agree on the first n types
 abbrev pub Agree : (n : ℕ) → (one other : Layouts) → Type 0

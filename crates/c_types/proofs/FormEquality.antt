@@ -1,5 +1,5 @@
 -- Forms are compared as the types that they are.
-use Rattle.std.proofs.Common.{◌≡◌, ℕ, Bool, true, false, ◌&&◌, eqb, List, [], Option, None, refl, sym, ap, ◌∙◌}
+use Rattle.std.proofs.Common.{◌≡◌, ℕ, Bool, true, false, List, None, refl, ap, ◌∙◌}
 use Rattle.std.specs.Map.{lookup}
 use mathlib.Core.Bool.{beq}
 use Rattle.c_types.specs.contracts.form.FormPartialEq.TheImpl.{eq-value}
@@ -7,7 +7,7 @@ use Rattle.c_types.specs.declared.form.Form.{Form}
 use Rattle.c_types.specs.declared.form.Form.TheVariants as form
 use Rattle.c_types.specs.declared.node.TypeNode.{TypeNode}
 use Rattle.c_types.specs.Building.{same_test, same_type, number_of}
-use Rattle.c_types.specs.Numbered.{node_of, noted, IsNumbered}
+use Rattle.c_types.specs.Numbered.{node_of, IsNumbered}
 
 same_beq : (one other : Bool) → beq one other ≡ same_test one other
 same_beq true true = refl

@@ -1,15 +1,13 @@
 -- What a table keeps, when it grows.
-use Rattle.std.proofs.Common.{◌≡◌, ℕ, ◌+◌, ◌<◌, ◌≤◌, Bool, true, false, cond, List, [], ◌∷◌, ◌++◌, length, get_or, map, Option, Some, None, refl, sym, ap, ◌∙◌, subst, length-append, arith}
+use Rattle.std.proofs.Common.{◌≡◌, ℕ, ◌+◌, ◌<◌, true, false, cond, List, [], ◌∷◌, ◌++◌, length, Option, None, refl, sym, ap, ◌∙◌, subst, length-append, arith}
 use Rattle.std.proofs.lemmas.List.{get_or_append_left, get_or_past, map-append}
 use Rattle.std.proofs.Math.ListN.{get_or-map}
 use Rattle.std.proofs.Math.Seq.{get_or-append_seam}
 use Rattle.c_types.specs.declared.laid.Kept.{Kept}
-use Rattle.c_types.specs.declared.layout.Layout.{Layout}
-use Rattle.c_types.specs.declared.node.Member.{Member}
 use Rattle.c_types.specs.declared.node.TypeNode.{TypeNode}
 use Rattle.c_types.specs.declared.node.TypeNode.TheVariants.{Void, Basic as Arithmetic, Pointer, Array, Function, Struct, Union, Enum, Qualified}
 use Rattle.c_types.specs.Nodes.{node_at}
-use Rattle.c_types.specs.Layouts.{Layouts, Part, parts_of, layout_in, layout_by, layout_of, depth_of, members_in, members_of_record}
+use Rattle.c_types.specs.Layouts.{Layouts, Part, layout_in, layout_by, layout_of, depth_of, members_in, members_of_record}
 use Rattle.c_types.specs.Built.{IsBuilt, IsNext, IsBelow, is_unqualified}
 use Rattle.c_types.specs.Kept.{nodes_of, kept_at, nothing_kept, IsKept}
 use Rattle.c_types.proofs.Depths.{Agree, parts_agree}

@@ -1,5 +1,6 @@
 pub mod Collecting
 pub mod Completed
+pub mod Completing
 pub mod Depths
 pub mod FormEquality
 pub mod Gathering

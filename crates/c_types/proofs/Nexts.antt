@@ -1,6 +1,7 @@
 -- Nodes that may stand behind a table.
-use Rattle.std.proofs.Common.{◌≡◌, ℕ, zero, suc, ◌+◌, ◌*◌, ◌<◌, ◌≤◌, Bool, true, false, List, [], ◌∷◌, length, Option, Some, None, IsSome, refl, sym, ap, ◌∙◌, subst, lit<, lit≤, arith}
+use Rattle.std.proofs.Common.{◌≡◌, ℕ, zero, suc, ◌*◌, ◌<◌, ◌≤◌, Bool, true, false, List, [], length, Option, Some, None, refl, ap, ◌∙◌, subst, lit<, lit≤, arith}
 use Rattle.std.specs.Option.{option_map, is_some, IsSomeAnd}
+use Rattle.std.specs.Prelude.{bit_or}
 use Rattle.c_types.specs.declared.layout.Layout.{Layout}
 use Rattle.c_types.specs.declared.node.Basic.{Basic}
 use Rattle.c_types.specs.declared.node.Basic.TheVariants as basic
@@ -10,7 +11,8 @@ use Rattle.c_types.specs.declared.node.TypeNode.TheVariants.{Void, Basic as Arit
 use Rattle.c_types.specs.Nodes.{node_at}
 use Rattle.c_types.specs.Layouts.{layout_in, layout_of, layout_of_array, size_of, depth_of, scalar, size_of_basic}
 use Rattle.c_types.proofs.Pushed.{laid_within}
-use Rattle.c_types.specs.Built.{IsModest, IsBuilt, IsNext, takes_qualifiers}
+use Rattle.c_types.specs.Building.{can_be_qualified, version_in, version_of}
+use Rattle.c_types.specs.Built.{IsModest, IsBuilt, IsBelow, IsNormal, IsNext, takes_qualifiers}
 
 modest_scalar : (size : ℕ) (l : Layout) → 0 < size → size ≤ 4 → (let one : Option Layout = Some (scalar size) in one ≡ Some l) → IsModest l
 modest_scalar size l some few is =
@@ -106,3 +108,25 @@ pub next_qualified : (nodes : List TypeNode) (built : IsBuilt nodes) (of bits : 
     → IsNext nodes (Qualified of bits)
 next_qualified nodes built of bits below takes =
     record { below = below; made = tt; normal = takes; modest = λ l is. built.modest of l is; light = refl }
+
+plain_next : (nodes : List TypeNode) (built : IsBuilt nodes) (id bits : ℕ) → id < length nodes → (here : TypeNode) → node_at nodes id ≡ here
+    → takes_qualifiers here ≡ true → IsNext nodes (Qualified id bits)
+plain_next nodes built id bits below here what takes = next_qualified nodes built id bits below (ap takes_qualifiers what ∙ takes)
+
+version_by : (nodes : List TypeNode) (built : IsBuilt nodes) (id bits : ℕ) → id < length nodes → (here : TypeNode) → node_at nodes id ≡ here
+    → can_be_qualified here ≡ true → IsNext nodes (version_in id bits here)
+version_by nodes built id bits below Void what can = plain_next nodes built id bits below Void what refl
+version_by nodes built id bits below (Arithmetic b) what can = plain_next nodes built id bits below (Arithmetic b) what refl
+version_by nodes built id bits below (Pointer to) what can = plain_next nodes built id bits below (Pointer to) what refl
+version_by nodes built id bits below (Array of count) what can = absurd cc
+version_by nodes built id bits below (Function returns is_known parameters is_variadic) what can =
+    plain_next nodes built id bits below (Function returns is_known parameters is_variadic) what refl
+version_by nodes built id bits below (Struct r) what can = plain_next nodes built id bits below (Struct r) what refl
+version_by nodes built id bits below (Union r) what can = plain_next nodes built id bits below (Union r) what refl
+version_by nodes built id bits below (Enum tag) what can = plain_next nodes built id bits below (Enum tag) what refl
+version_by nodes built id bits below (Qualified of own) what can =
+    next_qualified nodes built of (bit_or bits own) (subst (IsBelow (length nodes)) what (built.below id)) (subst (IsNormal nodes) what (built.normal id))
+
+pub next_version : (nodes : List TypeNode) (built : IsBuilt nodes) (id bits : ℕ) → id < length nodes → can_be_qualified (node_at nodes id) ≡ true
+    → IsNext nodes (version_of nodes id bits)
+next_version nodes built id bits below can = version_by nodes built id bits below (node_at nodes id) refl can

@@ -1,5 +1,5 @@
 -- Forms and their numbers.
-use Rattle.std.proofs.Common.{◌≡◌, ℕ, ◌+◌, ◌<◌, ◌≤◌, Bool, true, false, cond, List, [], ◌∷◌, ◌++◌, length, Option, Some, None, eqb, ltb, not, inl, inr, ◌⊎◌, refl, sym, ap, ◌∙◌, subst, length-append, arith}
+use Rattle.std.proofs.Common.{◌≡◌, ℕ, ◌+◌, ◌<◌, ◌≤◌, Bool, true, false, cond, List, [], ◌∷◌, ◌++◌, length, Option, Some, None, eqb, ltb, not, inl, inr, ◌⊎◌, refl, sym, ap, ◌∙◌, length-append, arith}
 use Rattle.std.specs.List.{position_or_len}
 use Rattle.std.specs.Map.{lookup}
 use Rattle.std.proofs.lemmas.List.Sums.{prefix_len-le-length}
@@ -9,10 +9,10 @@ use Rattle.c_types.specs.declared.form.Form.{Form}
 use Rattle.c_types.specs.declared.form.Form.TheVariants as form
 use Rattle.c_types.specs.declared.node.Record.{Record}
 use Rattle.c_types.specs.declared.node.TypeNode.{TypeNode}
-use Rattle.c_types.specs.declared.node.TypeNode.TheVariants.{Void, Basic as Arithmetic, Pointer, Array, Function, Struct, Union, Enum, Qualified}
+use Rattle.c_types.specs.declared.node.TypeNode.TheVariants.{Struct, Union, Enum}
 use Rattle.c_types.specs.Nodes.{presets}
 use Rattle.c_types.specs.Building.{same_type, index_of, number_of, with_node}
-use Rattle.c_types.specs.Numbered.{node_of, noted, IsNumbered}
+use Rattle.c_types.specs.Numbered.{node_of, IsNumbered}
 
 -- no form is a preset type
 pub numbered_presets : IsNumbered [] presets
@@ -113,13 +113,13 @@ numbered_added entries nodes form node id numbered is place one =
 
 -- ---- nodes that are no form
 
-no_struct : (r : Record) (one : Form) → same_type (node_of one) (Struct r) ≡ false
+pub no_struct : (r : Record) (one : Form) → same_type (node_of one) (Struct r) ≡ false
 no_struct r (form.Pointer to) = refl
 no_struct r (form.Array of count) = refl
 no_struct r (form.Function f) = refl
 no_struct r (form.Qualified of bits) = refl
 
-no_union : (r : Record) (one : Form) → same_type (node_of one) (Union r) ≡ false
+pub no_union : (r : Record) (one : Form) → same_type (node_of one) (Union r) ≡ false
 no_union r (form.Pointer to) = refl
 no_union r (form.Array of count) = refl
 no_union r (form.Function f) = refl

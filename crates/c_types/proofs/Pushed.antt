@@ -1,5 +1,5 @@
 -- A table with one more node behind it.
-use Rattle.std.proofs.Common.{◌≡◌, ℕ, zero, suc, ◌+◌, ◌<◌, ◌≤◌, Bool, true, false, List, [], ◌∷◌, ◌++◌, length, get_or, Option, Some, None, ◌⊎◌, inl, inr, refl, sym, ap, ◌∙◌, subst, length-append, arith}
+use Rattle.std.proofs.Common.{◌≡◌, ℕ, zero, suc, ◌+◌, ◌<◌, List, [], ◌∷◌, ◌++◌, length, Some, None, inl, inr, refl, sym, ap, ◌∙◌, subst, length-append, arith}
 use Rattle.std.proofs.lemmas.List.{get_or_append_left, get_or_past}
 use Rattle.std.proofs.Math.Seq.{get_or-append_seam}
 use Rattle.std.proofs.lemmas.Bool.{cases_lt}
@@ -7,9 +7,9 @@ use Rattle.c_types.specs.declared.layout.Layout.{Layout}
 use Rattle.c_types.specs.declared.node.TypeNode.{TypeNode}
 use Rattle.c_types.specs.declared.node.TypeNode.TheVariants.{Void, Basic as Arithmetic, Pointer, Array, Function, Struct, Union, Enum, Qualified}
 use Rattle.c_types.specs.Nodes.{node_at}
-use Rattle.c_types.specs.Layouts.{Layouts, layout_in, layout_by, layout_of, depth_of, weight}
+use Rattle.c_types.specs.Layouts.{layout_in, layout_by, layout_of, depth_of, weight}
 use Rattle.c_types.specs.Built.{IsBelow, IsMade, IsNormal, IsModest, IsBuilt, IsNext, takes_qualifiers}
-use Rattle.c_types.proofs.Depths.{Agree, Knows, layout_agree, layout_by-suc, layout_by-zero, is_below_more, made_known}
+use Rattle.c_types.proofs.Depths.{Agree, Knows, layout_agree, layout_by-suc, is_below_more, made_known}
 
 abbrev pub pushed : List TypeNode → TypeNode → List TypeNode
 pushed nodes node = nodes ++ (node ∷ [])

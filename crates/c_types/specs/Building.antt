@@ -1,10 +1,15 @@
 -- Tables that are built node by node: each pointer, array, function and qualified type stands in them once, so that the same type
 -- is the same number.
-use Rattle.std.specs.Prelude.{ℕ, ◌+◌, ◌==◌, nat_lt, ◌&&◌, Bool, true, false, if◌then◌else◌, List, [], ◌∷◌, ◌++◌, length, nat_eq, Option, Some, None}
+use Rattle.std.specs.Prelude.{◌≡◌, ℕ, nat_lt, ◌&&◌, not, Bool, true, false, if◌then◌else◌, List, [], ◌∷◌, ◌++◌, length, nat_eq, slice_set, bit_or, Option, Some, None}
 use Rattle.std.specs.List.{position_or_len}
 use Rattle.std.specs.Cmp.Lexicographic.{pointwise}
+use Rattle.c_types.specs.declared.layout.LayoutNo.{LayoutNo}
+use Rattle.c_types.specs.declared.layout.LayoutNo.TheVariants as no
+use Rattle.c_types.specs.declared.node.Field.{Field}
 use Rattle.c_types.specs.declared.node.TypeNode.{TypeNode}
 use Rattle.c_types.specs.declared.node.TypeNode.TheVariants.{Void, Basic as Arithmetic, Pointer, Array, Function, Struct, Union, Enum, Qualified}
+use Rattle.c_types.specs.Nodes.{node_at}
+use Rattle.c_types.specs.Layouts.{layout_of, size_of_fields, IsReason}
 
 abbrev pub same_test : (one other : Bool) → Bool
 same_test true other = other
@@ -85,3 +90,79 @@ number_of nodes node = if nat_lt (index_of nodes node) (length nodes) then Some 
 -- a number outside the table is that of void
 abbrev pub within : List TypeNode → (id : ℕ) → ℕ
 within nodes id = if nat_lt id (length nodes) then id else 0
+
+-- ---- qualified types
+
+-- an array is not qualified itself: its elements are (C90 6.5.3)
+abbrev pub can_be_qualified : TypeNode → Bool
+can_be_qualified Void = true
+can_be_qualified (Arithmetic b) = true
+can_be_qualified (Pointer to) = true
+can_be_qualified (Array of count) = false
+can_be_qualified (Function returns is_known parameters is_variadic) = true
+can_be_qualified (Struct r) = true
+can_be_qualified (Union r) = true
+can_be_qualified (Enum tag) = true
+can_be_qualified (Qualified of bits) = true
+
+-- the qualified version of a type that is no array; further qualifiers are joined with its own (C90 6.1.2.5)
+abbrev pub version_in : (id bits : ℕ) → TypeNode → TypeNode
+version_in id bits Void = Qualified id bits
+version_in id bits (Arithmetic b) = Qualified id bits
+version_in id bits (Pointer to) = Qualified id bits
+version_in id bits (Array of count) = Qualified id bits
+version_in id bits (Function returns is_known parameters is_variadic) = Qualified id bits
+version_in id bits (Struct r) = Qualified id bits
+version_in id bits (Union r) = Qualified id bits
+version_in id bits (Enum tag) = Qualified id bits
+version_in id bits (Qualified of own) = Qualified of (bit_or bits own)
+
+abbrev pub version_of : List TypeNode → (id bits : ℕ) → TypeNode
+version_of nodes id bits = version_in id bits (node_at nodes id)
+
+-- ---- structs and unions that are completed
+
+-- a struct or union whose members are not known yet
+abbrev pub is_incomplete : TypeNode → Bool
+is_incomplete (Struct r) = not r.is_complete
+is_incomplete (Union r) = not r.is_complete
+is_incomplete Void = false
+is_incomplete (Arithmetic b) = false
+is_incomplete (Pointer to) = false
+is_incomplete (Array of count) = false
+is_incomplete (Function returns is_known parameters is_variadic) = false
+is_incomplete (Enum tag) = false
+is_incomplete (Qualified of bits) = false
+
+abbrev pub is_union : TypeNode → Bool
+is_union (Union r) = true
+is_union (Struct r) = false
+is_union Void = false
+is_union (Arithmetic b) = false
+is_union (Pointer to) = false
+is_union (Array of count) = false
+is_union (Function returns is_known parameters is_variadic) = false
+is_union (Enum tag) = false
+is_union (Qualified of bits) = false
+
+-- it with these members
+abbrev pub completed : List Field → TypeNode → TypeNode
+completed fields (Struct r) = Struct (record r { is_complete = true; fields = fields })
+completed fields (Union r) = Union (record r { is_complete = true; fields = fields })
+completed fields Void = Void
+completed fields (Arithmetic b) = Arithmetic b
+completed fields (Pointer to) = Pointer to
+completed fields (Array of count) = Array of count
+completed fields (Function returns is_known parameters is_variadic) = Function returns is_known parameters is_variadic
+completed fields (Enum tag) = Enum tag
+completed fields (Qualified of bits) = Qualified of bits
+
+abbrev pub with_completed : List TypeNode → (id : ℕ) → List Field → List TypeNode
+with_completed nodes id fields = slice_set nodes id (completed fields (node_at nodes id))
+
+-- what it means that type `id` cannot be completed with these fields
+abbrev pub IsReasonAt : List TypeNode → (id : ℕ) → List Field → LayoutNo → Type 0
+IsReasonAt nodes id fields no.NotIncomplete = is_incomplete (node_at nodes id) ≡ false
+IsReasonAt nodes id fields no.Part = (is_incomplete (node_at nodes id) ≡ true) × IsReason (size_of_fields (is_union (node_at nodes id)) (layout_of nodes) fields) no.Part
+IsReasonAt nodes id fields no.Large = (is_incomplete (node_at nodes id) ≡ true) × IsReason (size_of_fields (is_union (node_at nodes id)) (layout_of nodes) fields) no.Large
+IsReasonAt nodes id fields no.NoMemory = is_incomplete (node_at nodes id) ≡ true

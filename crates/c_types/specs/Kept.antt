@@ -1,5 +1,5 @@
 -- What a table keeps of its nodes.
-use Rattle.std.specs.Prelude.{◌≡◌, ℕ, true, List, [], map, slice_index_or, Option, Some, None}
+use Rattle.std.specs.Prelude.{◌≡◌, ℕ, true, List, [], map, slice_index_or, Option, None}
 use Rattle.c_types.specs.declared.layout.Layout.{Layout}
 use Rattle.c_types.specs.declared.laid.Kept.{Kept}
 use Rattle.c_types.specs.declared.node.TypeNode.{TypeNode}

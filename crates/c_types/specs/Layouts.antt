@@ -1,13 +1,15 @@
 -- Sizes, alignments, members and shapes of types (C90 6.1.2.5, 6.5.2.1; storage is little-endian, and a bit-field lies in a unit
 -- of 4 bytes, from the lowest free bit upward).
-use Rattle.std.specs.Prelude.{ℕ, zero, suc, ◌+◌, ◌-◌, ◌*◌, ◌/◌, ◌%◌, ◌^◌, ◌==◌, nat_lt, nat_le, ◌&&◌, ◌||◌, max, not, Bool, true, false, if◌then◌else◌, List, [], ◌∷◌, ◌++◌, length, map, slice_index_or, slice_get, Option, Some, None, unwrap_or}
-use Rattle.std.specs.Option.{option_map}
-use Rattle.std.specs.List.{list_any, list_all, find}
+use Rattle.std.specs.Prelude.{◌<◌, ◌≡◌, ℕ, zero, suc, ◌+◌, ◌-◌, ◌*◌, ◌/◌, ◌%◌, ◌==◌, nat_lt, nat_le, ◌&&◌, ◌||◌, max, not, Bool, true, false, if◌then◌else◌, List, [], ◌∷◌, ◌++◌, length, map, slice_index_or, slice_get, Option, Some, None}
+use Rattle.std.specs.Option.{option_map, IsSomeAnd}
+use Rattle.std.specs.List.{list_any, find}
 use Rattle.std.specs.Cmp.Lexicographic.{pointwise}
 use Rattle.std.specs.Prelude.{nat_eq}
 use Rattle.fsc_base.specs.declared.word.WordKind.{WordKind}
 use Rattle.fsc_base.specs.declared.word.WordKind.TheVariants.{Fat, Narrow}
 use Rattle.c_types.specs.declared.layout.Layout.{Layout}
+use Rattle.c_types.specs.declared.layout.LayoutNo.{LayoutNo}
+use Rattle.c_types.specs.declared.layout.LayoutNo.TheVariants as no
 use Rattle.c_types.specs.declared.node.Basic.{Basic}
 use Rattle.c_types.specs.declared.node.Basic.TheVariants as basic
 use Rattle.c_types.specs.declared.node.Field.{Field}
@@ -155,6 +157,17 @@ record_size is_union parts = next_multiple (greatest_align parts) (end_of is_uni
 abbrev pub record_layout : (is_union : Bool) → List Part → Layout
 record_layout is_union parts = let size = record_size is_union parts in
     record { size = size; align = greatest_align parts; kinds = record_kinds (places_of is_union parts) size }
+
+-- the size that a struct or union with these fields has, where each field's type has a layout
+abbrev pub size_of_fields : (is_union : Bool) → Layouts → List Field → Option ℕ
+size_of_fields is_union layouts fields = option_map (record_size is_union) (parts_of layouts fields)
+
+-- what it means that a struct or union of that size is refused
+abbrev pub IsReason : (size : Option ℕ) → LayoutNo → Type 0
+IsReason size no.Part = size ≡ None
+IsReason size no.Large = IsSomeAnd size (λ bytes. 134217728 < bytes)
+IsReason size no.NotIncomplete = ⊥
+IsReason size no.NoMemory = Unit {0}
 
 -- a struct or union has a layout where it is complete and each member's type has one
 abbrev pub layout_of_record : (is_union : Bool) → Layouts → Record → Option Layout

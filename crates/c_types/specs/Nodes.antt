@@ -1,6 +1,5 @@
 -- Tables of types: which node a number names, and the nodes that each table of the checker begins with.
-use Rattle.std.specs.Prelude.{ℕ, zero, suc, ◌==◌, Bool, List, [], ◌∷◌, length, slice_index_or}
-use Rattle.c_types.specs.declared.node.Basic.{Basic}
+use Rattle.std.specs.Prelude.{ℕ, zero, suc, List, [], ◌∷◌, length, slice_index_or}
 use Rattle.c_types.specs.declared.node.Basic.TheVariants as basic
 use Rattle.c_types.specs.declared.node.TypeNode.{TypeNode}
 use Rattle.c_types.specs.declared.node.TypeNode.TheVariants.{Void, Basic as Arithmetic, Pointer, Array, Function, Struct, Union, Enum, Qualified}

@@ -3,7 +3,6 @@ use Rattle.std.specs.Prelude.{ℕ, zero, suc, ◌==◌, ◌%◌, nat_le, if◌th
 use Rattle.std.specs.Fmt.{decimal}
 use Rattle.c_types.specs.declared.node.Basic.{Basic}
 use Rattle.c_types.specs.declared.node.Basic.TheVariants as basic
-use Rattle.c_types.specs.declared.node.Record.{Record}
 use Rattle.c_types.specs.declared.node.TypeNode.{TypeNode}
 use Rattle.c_types.specs.declared.node.TypeNode.TheVariants.{Void, Basic as Arithmetic, Pointer, Array, Function, Struct, Union, Enum, Qualified}
 use Rattle.c_types.specs.Nodes.{node_at}

@@ -1,5 +1,5 @@
 -- Layouts of some types, worked through.
-use Rattle.std.specs.Prelude.{◌≡◌, ℕ, Bool, true, false, List, [], ◌∷◌, ◌++◌, Some, None, codes}
+use Rattle.std.specs.Prelude.{◌≡◌, ℕ, true, false, List, [], ◌∷◌, ◌++◌, Some, None, codes}
 use Rattle.fsc_base.specs.declared.word.WordKind.TheVariants.{Fat, Narrow}
 use Rattle.c_types.specs.declared.node.Field.{Field}
 use Rattle.c_types.specs.declared.node.Record.{Record}

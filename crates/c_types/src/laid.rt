@@ -1,15 +1,16 @@
 //! Nodes with their layouts.
 
-ghost use Rattle.std.specs.Prelude.{◌≡◌, ◌++◌, ◌∷◌, [], ◌<◌, length, slice_get, slice_index_or, OnOk, OnErr, IfOk, Err, Some, None, true};
+ghost use Rattle.std.specs.Prelude.{◌≡◌, ◌++◌, ◌∷◌, [], ◌<◌, ◌≤◌, length, slice_get, slice_index_or, OnOk, OnErr, IfOk, IfErr, IsSomeAnd, Bool, Err, Some, None, IsSome, true};
 ghost use Rattle.std.specs.Option.{option_copied, option_map};
 ghost use Rattle.c_types.specs.Nodes.{node_at, presets, unqualified_in};
-ghost use Rattle.c_types.specs.Layouts.{layout_of, layout_in, members_in, members_of, members_of_record, parts_of, record_layout, scalar};
+ghost use Rattle.c_types.specs.Layouts.{layout_of, layout_in, members_in, members_of, members_of_record, parts_of, record_layout, scalar, size_of_fields, IsReason};
 ghost use Rattle.c_types.specs.Parts.{parts_in};
-ghost use Rattle.c_types.specs.Built.{IsBuilt, IsNext, is_unqualified};
+ghost use Rattle.c_types.specs.Building.{completed, is_incomplete, is_union, with_completed, IsReasonAt};
+ghost use Rattle.c_types.specs.Built.{IsBuilt, IsModest, IsNext, is_unqualified};
 ghost use Rattle.c_types.specs.Kept.{layout_kept};
 
 use crate::layout::{Layout, LayoutNo};
-use crate::node::{Basic, Field, Member, Members, TypeId, TypeNode};
+use crate::node::{Basic, Field, Fields, Member, Members, TypeId, TypeNode};
 use crate::record::{PartOf, lay_out};
 use fsc_base::NoMemory;
 use std::alloc::Global;
@@ -23,6 +24,17 @@ pub(crate) struct Kept {
     pub layout: Option<Layout>,
     /// The members of a struct or union.
     pub members: Members,
+}
+
+impl Kept {
+    /// A struct or union whose members become known, with the layout and the members that it then has.
+    fn complete(&mut self, fields: Fields, layout: Layout, members: Members)
+        ensures { self.new ≡ record { node = completed fields self.old.node; layout = Some layout; members = members } }
+    {
+        self.node.complete(fields);
+        self.layout = Some(layout);
+        self.members = members;
+    }
 }
 
 /// Nodes, each behind those that its layout is made of, with these layouts. Contracts see the list of nodes.
@@ -183,7 +195,7 @@ impl LaidNodes {
     /// Fields with the layouts of their types; Part exactly where one of them has none.
     fn parts<'a>(&'a self, fields: &'a [Field]) -> Result<Vec<PartOf<'a>>, LayoutNo>
         ensures found { IfOk result (λ parts. parts_of (layout_of self.now) fields.now ≡ Some (parts_in parts.items)) }
-        ensures part { result ≡ Err LayoutNo.Part → parts_of (layout_of self.now) fields.now ≡ None }
+        ensures refused { (is_union : Bool) → IfErr result (IsReason (size_of_fields is_union (layout_of self.now) fields.now)) }
         ensures built { IsBuilt self.now }
     {
         let _ = self.node(0);
@@ -197,12 +209,32 @@ impl LaidNodes {
         Ok(parts)
     }
 
-    /// The layout and the members that a struct or union with these fields has. Part exactly where a field's type has no layout.
+    /// The layout and the members that a struct or union with these fields has. Part only where a field's type has no layout, Large only
+    /// where it is larger than 2^27 bytes.
     pub fn lay_out(&self, is_union: bool, fields: &[Field]) -> Result<(Layout, Members), LayoutNo>
         ensures layout { IfOk result (λ r. option_map (record_layout is_union) (parts_of (layout_of self.now) fields.now) ≡ Some r.0) }
         ensures members { IfOk result (λ r. members_of_record is_union (parts_of (layout_of self.now) fields.now) ≡ r.1) }
+        ensures modest { IfOk result (λ r. IsModest r.0) }
+        ensures refused { IfErr result (IsReason (size_of_fields is_union (layout_of self.now) fields.now)) }
     {
         let parts = self.parts(fields)?;
         lay_out(self.alloc, is_union, parts.as_slice())
+    }
+
+    /// An incomplete struct or union becomes complete, with these fields. NotIncomplete exactly where it is none; Part and
+    /// Large as in `lay_out`. When it is refused, all stays as it was.
+    pub fn complete(&mut self, id: TypeId, fields: Fields) -> Result<(), LayoutNo>
+        ensures completed { OnOk result (self.new ≡ with_completed self.old id fields) }
+        ensures incomplete { OnOk result (is_incomplete (node_at self.old id) ≡ true) }
+        ensures size { OnOk result (IsSomeAnd (size_of_fields (is_union (node_at self.old id)) (layout_of self.old) fields) (λ size. size ≤ 134217728)) }
+        ensures refused { IfErr result (IsReasonAt self.old id fields) }
+        ensures err { OnErr result (self.new ≡ self.old) }
+    {
+        let Some(is_union) = self.node(id).incomplete_is_union() else {
+            return Err(LayoutNo::NotIncomplete);
+        };
+        let (layout, members) = self.lay_out(is_union, fields.as_slice())?;
+        self.kept[id as usize].complete(fields, layout, members);
+        Ok(())
     }
 }

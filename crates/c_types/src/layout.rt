@@ -29,6 +29,8 @@ pub enum LayoutNo {
     Part,
     /// It would be larger than 2^27 bytes.
     Large,
+    /// It was to be completed, and is no incomplete struct or union.
+    NotIncomplete,
     /// No memory was left for what had to be kept.
     NoMemory,
 }

@@ -81,6 +81,59 @@ pub enum TypeNode {
     },
 }
 
+impl TypeNode {
+    ghost use Rattle.std.specs.Prelude.{◌≡◌, IfSome, IsNone, true, false};
+    ghost use Rattle.c_types.specs.Building.{is_incomplete, is_union, completed};
+
+    /// Whether an incomplete struct or union is a union; None of every other type.
+    pub(crate) fn incomplete_is_union(&self) -> Option<bool>
+        ensures union { IfSome result (λ it. it ≡ is_union self.now) }
+        ensures incomplete { IfSome result (λ it. is_incomplete self.now ≡ true) }
+        ensures none { IsNone result → is_incomplete self.now ≡ false }
+    {
+        match self {
+            TypeNode::Struct(record) => {
+                if record.is_complete {
+                    None
+                } else {
+                    Some(false)
+                }
+            }
+            TypeNode::Union(record) => { if record.is_complete { None } else { Some(true) } }
+            TypeNode::Void
+            | TypeNode::Basic(_)
+            | TypeNode::Pointer(_)
+            | TypeNode::Array { .. }
+            | TypeNode::Function { .. }
+            | TypeNode::Enum(_)
+            | TypeNode::Qualified { .. } => None,
+        }
+    }
+
+    /// The members of a struct or union become known; every other type stays as it is.
+    pub(crate) fn complete(&mut self, fields: Fields)
+        ensures { self.new ≡ completed fields self.old }
+    {
+        match self {
+            TypeNode::Struct(record) => {
+                record.is_complete = true;
+                record.fields = fields;
+            }
+            TypeNode::Union(record) => {
+                record.is_complete = true;
+                record.fields = fields;
+            }
+            TypeNode::Void
+            | TypeNode::Basic(_)
+            | TypeNode::Pointer(_)
+            | TypeNode::Array { .. }
+            | TypeNode::Function { .. }
+            | TypeNode::Enum(_)
+            | TypeNode::Qualified { .. } => {}
+        }
+    }
+}
+
 /// A member of a complete struct or union, and where it lies.
 #[derive(Debug, Drop)]
 pub struct Member {

@@ -1,7 +1,7 @@
 //! How the members of a struct or union lie (C90 6.5.2.1).
 
-ghost use Rattle.std.specs.Prelude.{◌≡◌, ◌+◌, ◌*◌, ◌-◌, ◌/◌, ◌<◌, ◌≤◌, [], length, map, true, false, Err, IfOk};
-ghost use Rattle.c_types.specs.Layouts.{next_multiple, is_bit_field, offset_of, end_at, align_of_part, struct_places, struct_end, union_end, placed, greatest_align, makes_fat, kinds_before, member_of_place, places_of, end_of, is_fat_word, record_kinds, record_layout};
+ghost use Rattle.std.specs.Prelude.{◌≡◌, ◌+◌, ◌*◌, ◌-◌, ◌/◌, ◌<◌, ◌≤◌, [], length, map, true, false, Some, Err, IfOk, IfErr};
+ghost use Rattle.c_types.specs.Layouts.{next_multiple, is_bit_field, offset_of, end_at, align_of_part, struct_places, struct_end, union_end, placed, greatest_align, makes_fat, kinds_before, member_of_place, places_of, end_of, is_fat_word, record_kinds, record_layout, record_size, IsReason};
 ghost use Rattle.c_types.specs.Periods.{period_of};
 ghost use Rattle.std.specs.List.{list_any};
 ghost use Rattle.c_types.specs.Parts.{part_in, parts_in, place_in, places_in, AreModest};
@@ -103,6 +103,7 @@ pub(crate) fn place_struct<'a>(
     ensures places { IfOk result (λ p. places_in p.0.items ≡ struct_places 0 (parts_in parts.now)) }
     ensures end { IfOk result (λ p. p.1 ≡ struct_end 0 (parts_in parts.now)) }
     ensures within { IfOk result (λ p. p.1 ≤ 134217728) }
+    ensures refused { IfErr result (IsReason (Some (struct_end 0 (parts_in parts.now)))) }
 {
     let mut places = Vec::new(alloc);
     let mut end = 0;
@@ -129,6 +130,7 @@ pub(crate) fn place_union<'a>(
     ensures places { IfOk result (λ p. places_in p.0.items ≡ map (placed 0) (parts_in parts.now)) }
     ensures end { IfOk result (λ p. p.1 ≡ union_end (parts_in parts.now)) }
     ensures within { IfOk result (λ p. p.1 ≤ 134217728) }
+    ensures refused { IfErr result (IsReason (Some (union_end (parts_in parts.now)))) }
 {
     let mut places = Vec::new(alloc);
     let mut end = 0;
@@ -152,6 +154,7 @@ fn place_all<'a>(
     ensures places { IfOk result (λ p. places_in p.0.items ≡ places_of is_union (parts_in parts.now)) }
     ensures end { IfOk result (λ p. p.1 ≡ end_of is_union (parts_in parts.now)) }
     ensures within { IfOk result (λ p. p.1 ≤ 134217728) }
+    ensures refused { IfErr result (IsReason (Some (end_of is_union (parts_in parts.now)))) }
 {
     if is_union {
         place_union(alloc, parts)
@@ -268,6 +271,7 @@ fn members_at(alloc: Global, places: &[Place]) -> Result<Vec<Member>, NoMemory>
 }
 
 /// The layout and the members of a complete struct or union. Large only where it is larger than 2^27 bytes.
+#[tactic(auto, using(crate::proofs::Placing::end_reason))]
 pub(crate) fn lay_out(
     alloc: Global,
     is_union: bool,
@@ -277,6 +281,7 @@ pub(crate) fn lay_out(
     ensures layout { IfOk result (λ r. r.0 ≡ record_layout is_union (parts_in parts.now)) }
     ensures members { IfOk result (λ r. r.1 ≡ map member_of_place (places_of is_union (parts_in parts.now))) }
     ensures modest { IfOk result (λ r. IsModest r.0) }
+    ensures refused { IfErr result (IsReason (Some (record_size is_union (parts_in parts.now)))) }
 {
     let (places, end) = place_all(alloc, is_union, parts)?;
     let align = align_of_parts(parts);

@@ -1,10 +1,10 @@
 //! A unit's types.
 
-ghost use Rattle.std.specs.Prelude.{◌≡◌, ℕ, ◌+◌, ◌*◌, ◌<◌, ◌≤◌, ◌++◌, ◌∷◌, [], ◌↔◌, length, slice_get, true, false, Some, None, Err, IsSome, IsSomeAnd, IfOk, OnOk, OnErr};
+ghost use Rattle.std.specs.Prelude.{◌≡◌, ℕ, ◌+◌, ◌*◌, ◌<◌, ◌≤◌, ◌++◌, ◌∷◌, [], ◌↔◌, length, slice_get, true, false, Some, None, Err, IsSomeAnd, IfOk, IfErr, OnOk, OnErr};
 ghost use Rattle.std.specs.Option.{option_copied, option_map};
 ghost use Rattle.c_types.specs.Built.{IsBuilt, IsNext, is_unqualified};
-ghost use Rattle.c_types.specs.Building.{number_of, index_of, with_node};
-ghost use Rattle.c_types.specs.Layouts.{layout_of, layout_in, size_of, align_of, kinds_of, members_in, members_of, member_of, members_of_record, parts_of, record_layout};
+ghost use Rattle.c_types.specs.Building.{can_be_qualified, version_of, number_of, index_of, is_incomplete, is_union, with_completed, with_node, IsReasonAt};
+ghost use Rattle.c_types.specs.Layouts.{layout_of, layout_in, size_of, align_of, kinds_of, members_in, members_of, member_of, members_of_record, parts_of, record_layout, size_of_fields, IsReason};
 ghost use Rattle.c_types.specs.Nodes.{presets, node_at};
 ghost use Rattle.c_types.specs.Numbered.{node_of};
 
@@ -187,6 +187,41 @@ impl TypeTable {
         }
     }
 
+    /// What the qualified version of a type that is no array qualifies, and all its qualifiers.
+    fn version(&self, id: TypeId, bits: u32) -> (TypeId, u32)
+        ensures version { TypeNode.Qualified result.0 result.1 ≡ version_of self.now id bits }
+        ensures built { IsBuilt self.now }
+    {
+        match self.node(id) {
+            TypeNode::Qualified { of, bits: own } => (*of, bits | *own),
+            TypeNode::Void
+            | TypeNode::Basic(_)
+            | TypeNode::Pointer(_)
+            | TypeNode::Array { .. }
+            | TypeNode::Function { .. }
+            | TypeNode::Struct(_)
+            | TypeNode::Union(_)
+            | TypeNode::Enum(_) => (id, bits),
+        }
+    }
+
+    /// The qualified version of a type that is no array: 1 for const, 2 for volatile, 3 for both. They are joined with the type's own
+    /// (C90 6.1.2.5).
+    pub fn qualified_version(&mut self, id: TypeId, bits: u32) -> Result<TypeId, NoMemory>
+        requires within { id < length self.old }
+        requires no_array { can_be_qualified (node_at self.old id) ≡ true }
+        ensures id { IfOk result (λ version. version ≡ index_of self.old (version_of self.old id bits)) }
+        ensures nodes { OnOk result (self.new ≡ with_node self.old (version_of self.old id bits)) }
+        ensures err { OnErr result (self.new ≡ self.old) }
+    {
+        let (of, bits) = self.version(id, bits);
+        let form = Form::Qualified(of, bits);
+        match self.number(&form) {
+            Some(version) => Ok(version),
+            None => self.add_form(form, TypeNode::Qualified { of, bits }, None),
+        }
+    }
+
     /// A struct of its own, not complete yet.
     pub fn add_struct(&mut self, tag: Name) -> Result<TypeId, NoMemory>
         ensures id { IfOk result (λ id. id ≡ length self.old) }
@@ -320,8 +355,22 @@ impl TypeTable {
     pub fn lay_out(&self, is_union: bool, fields: &Fields) -> Result<(Layout, Members), LayoutNo>
         ensures layout { IfOk result (λ r. option_map (record_layout is_union) (parts_of (layout_of self.now) fields.now) ≡ Some r.0) }
         ensures members { IfOk result (λ r. members_of_record is_union (parts_of (layout_of self.now) fields.now) ≡ r.1) }
+        ensures refused { IfErr result (IsReason (size_of_fields is_union (layout_of self.now) fields.now)) }
     {
         self.nodes.lay_out(is_union, fields.as_slice())
+    }
+
+    /// Makes an incomplete struct or union complete, with these fields; all other types of the table stay. Refused where it is none,
+    /// where a field is of no complete object type, or where it would be larger than 2^27 bytes; all stays then as it was.
+    pub fn complete(&mut self, id: TypeId, fields: Fields) -> Result<(), LayoutNo>
+        ensures completed { OnOk result (self.new ≡ with_completed self.old id fields) }
+        ensures incomplete { OnOk result (is_incomplete (node_at self.old id) ≡ true) }
+        ensures size { OnOk result (IsSomeAnd (size_of_fields (is_union (node_at self.old id)) (layout_of self.old) fields) (λ size. size ≤ 134217728)) }
+        ensures refused { IfErr result (IsReasonAt self.old id fields) }
+        ensures err { OnErr result (self.new ≡ self.old) }
+    {
+        self.nodes.complete(id, fields)?;
+        Ok(())
     }
 
     /// The member of a struct or union that has that name. It takes no memory.

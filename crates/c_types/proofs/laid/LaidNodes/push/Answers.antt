@@ -1,8 +1,4 @@
-use Rattle.std.proofs.Common.{sym, ◌∙◌, ap, subst}
-use Rattle.c_types.specs.Built.{IsNext}
-use Rattle.c_types.specs.declared.node.TypeNode.{TypeNode}
-use Rattle.std.specs.Prelude.{List}
-use Rattle.c_types.specs.Layouts.{layout_of, layout_in, members_in}
+use Rattle.std.proofs.Common.{sym, ◌∙◌}
 use Rattle.c_types.proofs.Keeping.{kept_pushed}
 use Rattle.c_types.proofs.laid.LaidNodes.push.Goals as goal
 

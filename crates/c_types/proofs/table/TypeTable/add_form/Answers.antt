@@ -1,7 +1,6 @@
-use Rattle.std.proofs.Common.{◌≡◌, List, [], ◌∷◌, ◌++◌, None, sym, ap, ◌∙◌}
+use Rattle.std.proofs.Common.{◌≡◌, [], ◌∷◌, ◌++◌, None, sym, ◌∙◌}
 use Rattle.indexmap.proofs.CallerLemmas.{insert_entry-new}
 use Rattle.c_types.specs.contracts.form.FormPartialEq.TheImpl.{eq-value}
-use Rattle.c_types.specs.declared.node.TypeNode.{TypeNode}
 use Rattle.c_types.specs.Building.{number_of}
 use Rattle.c_types.specs.Numbered.{node_of, IsNumbered}
 use Rattle.c_types.proofs.FormEquality.{none_noted}
