@@ -8,12 +8,13 @@
 //! outermost, has k - 1 parts above it. So chains that group to the left count, as `a+b+c` and suffixes do, and so do `else if`
 //! and labels in a row; the items of a list don't: operands of commas, arguments, items of an initialiser, declarators of one
 //! declaration, statements of one block, the stars of one declarator. A tree has a depth of at most 256, so that whatever walks
-//! it, dropping it included, may be a recursion.
+//! it, dropping it included, may be a recursion. `specs/Depth` says so as a definition.
 #![tactic(auto)]
 
 mod declaration;
 mod declared_name;
 mod expression;
+mod laws;
 mod operator;
 mod statement;
 mod unit;
@@ -23,6 +24,7 @@ pub use expression::{
     Declarator, Enumerator, Expr, ExprForm, Field, FieldDeclarator, ListedName, Parameter, Part,
     PartForm, Pointer, Specifier, SpecifierForm, TypeName,
 };
+pub use laws::depth_is_counted;
 pub use operator::{Binary, Qualifier, RecordKind, Step, Storage, TypeKeyword, Unary};
 pub use statement::{Compound, Statement, StatementForm};
 pub use unit::{External, Function, Tree};
