@@ -1,0 +1,20 @@
+//! Types in the text: lists of specifiers, declarators, structs, unions, enums, parameters and type names (C90 6.5.1 to 6.5.6).
+//!
+//! Everything is a method over three function values, which read what lies deeper: an expression, a list of specifiers and a list
+//! of parameters. So each is proved alone, and a crate above closes the circle.
+#![tactic(auto)]
+
+mod declarator;
+mod enumeration;
+mod keywords;
+mod parameter;
+mod record;
+mod specified;
+mod specifiers;
+mod tags;
+mod types;
+
+pub use declarator::{Defined, Own, adjusted};
+pub use parameter::{ParameterOf, Parameters};
+pub use specified::Specified;
+pub use types::Types;

@@ -1,0 +1,64 @@
+//! Conversions of constants (C90 6.2, 6.3.4).
+
+use crate::value::{Value, plain};
+use c_ops::narrowed;
+use c_tree::Conversion;
+use c_types::{TypeId, TypeNode, TypeTable};
+
+/// What a conversion asks of the type.
+#[derive(Clone, Copy, Debug, PartialEq, Eq)]
+pub(crate) enum Target {
+    Pointer,
+    Integer,
+    Neither,
+}
+
+/// What a type that is not qualified is.
+fn target_in(node: &TypeNode) -> Target {
+    match node {
+        TypeNode::Pointer(_) => Target::Pointer,
+        TypeNode::Basic(_) => Target::Integer,
+        TypeNode::Enum(_) => Target::Integer,
+        TypeNode::Void => Target::Neither,
+        TypeNode::Array { .. } => Target::Neither,
+        TypeNode::Function { .. } => Target::Neither,
+        TypeNode::Struct(_) => Target::Neither,
+        TypeNode::Union(_) => Target::Neither,
+        TypeNode::Qualified { .. } => Target::Neither,
+    }
+}
+
+/// A type's node, and that of the type that it qualifies where it is qualified.
+pub(crate) fn bare_node(types: &TypeTable, id: TypeId) -> &TypeNode {
+    match types.node(id) {
+        TypeNode::Qualified { of, .. } => types.node(*of),
+        node => node,
+    }
+}
+
+/// What a type is, its qualifiers aside.
+pub(crate) fn target_of(types: &TypeTable, id: TypeId) -> Target {
+    target_in(bare_node(types, id))
+}
+
+/// A number converted.
+fn narrow(conversion: Conversion, number: u32) -> u32 {
+    match conversion {
+        Conversion::Keep => number,
+        Conversion::Narrow { width, is_signed } => narrowed(width, is_signed, plain(number)).value,
+        Conversion::Decide(_) => number,
+    }
+}
+
+/// A value as one of a type. A pointer has no constant integer but where it is the place of a member or element under a number;
+/// other types have none.
+pub(crate) fn converted(target: Target, conversion: Conversion, value: Value) -> Option<Value> {
+    match target {
+        Target::Pointer => Some(value.as_pointer()),
+        Target::Integer => match value.as_integer() {
+            Some(number) => Some(Value::Whole(narrow(conversion, number))),
+            None => None,
+        },
+        Target::Neither => None,
+    }
+}

@@ -1,0 +1,18 @@
+//! Nodes of C's tree over what was read, one function for each form, and the productions that hold no expression (C90 6.3 to 6.5.5).
+//!
+//! Each function answers what it built with its height. None refuses anything but for want of memory, but for those that read.
+#![tactic(auto)]
+
+pub mod enumeration;
+mod listed;
+pub mod node;
+pub mod part;
+pub mod record;
+mod specifier;
+mod token;
+mod type_name;
+
+pub use listed::{names, no_names};
+pub use specifier::{alias, has_type, is_typedef, word};
+pub use token::token;
+pub use type_name::{declare, parameter, type_name};

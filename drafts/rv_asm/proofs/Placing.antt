@@ -1,0 +1,58 @@
+-- Where labels stand in code that grows.
+use Rattle.std.proofs.Common.{◌≡◌, ℕ, ◌+◌, ◌<◌, ◌==◌, Bool, true, false, cond, List, [], ◌∷◌, ◌++◌, length, Option, Some, None, refl, sym, ap, ◌∙◌, arith, add-zero}
+use Rattle.std.proofs.lemmas.List.{get_or_append_left, get_or-append_right, get_or-set_same, get_or-set_other}
+use Rattle.std.proofs.Math.ListN.{set}
+use Rattle.rv_asm.specs.declared.item.Item.{Item}
+use Rattle.rv_asm.specs.declared.item.Item.TheVariants.{Line, Bind, Leap}
+use Rattle.rv_asm.specs.Items.{size_of, size_in, place_from, place_of, TakesRoom}
+use Rattle.rv_asm.specs.Places.{place_in}
+
+pub size_in-append : (xs ys : List Item) → size_in (xs ++ ys) ≡ size_in xs + size_in ys
+size_in-append [] ys = omega arith
+size_in-append (x ∷ xs) ys = omega (arith, size_in-append xs ys)
+
+-- the first of two places
+abbrev pub first_of_two : Option ℕ → Option ℕ → Option ℕ
+first_of_two None later = later
+first_of_two (Some at) later = Some at
+
+first_of_cond : (b : Bool) (at : ℕ) (place later : Option ℕ) → cond b (Some at) (first_of_two place later) ≡ first_of_two (cond b (Some at) place) later
+first_of_cond true at place later = refl
+first_of_cond false at place later = refl
+
+first_of_none : (place : Option ℕ) → first_of_two place None ≡ place
+first_of_none None = refl
+first_of_none (Some at) = refl
+
+pub place_from-append : (at : ℕ) (xs ys : List Item) (label : ℕ)
+    → place_from at (xs ++ ys) label ≡ first_of_two (place_from at xs label) (place_from (at + size_in xs) ys label)
+place_from-append at [] ys label = ap (λ (n : ℕ). place_from n ys label) (let e : at ≡ at + 0 = omega arith in e)
+place_from-append at (Line inst ∷ xs) ys label =
+    place_from-append (at + 4) xs ys label
+    ∙ ap (λ (n : ℕ). first_of_two (place_from (at + 4) xs label) (place_from n ys label)) (let e : at + 4 + size_in xs ≡ at + (4 + size_in xs) = omega arith in e)
+place_from-append at (Leap to link ∷ xs) ys label =
+    place_from-append (at + 8) xs ys label
+    ∙ ap (λ (n : ℕ). first_of_two (place_from (at + 8) xs label) (place_from n ys label)) (let e : at + 8 + size_in xs ≡ at + (8 + size_in xs) = omega arith in e)
+place_from-append at (Bind bound ∷ xs) ys label =
+    ap (λ (place : Option ℕ). cond (bound == label) (Some at) place)
+    (
+    place_from-append at xs ys label
+    ∙ ap (λ (n : ℕ). first_of_two (place_from at xs label) (place_from n ys label)) (let e : at + size_in xs ≡ at + (0 + size_in xs) = omega arith in e)
+    )
+    ∙ first_of_cond (bound == label) at (place_from at xs label) (place_from (at + (0 + size_in xs)) ys label)
+
+-- an item that takes room binds nothing
+room_alone : (at : ℕ) (item : Item) (label : ℕ) → TakesRoom item → place_from at (item ∷ []) label ≡ None
+room_alone at (Line inst) label h = refl
+room_alone at (Leap to link) label h = refl
+room_alone at (Bind bound) label h = absurd (omega arith)
+
+pub place_of_room : (items : List Item) (item : Item) (label : ℕ) → TakesRoom item → place_of (items ++ item ∷ []) label ≡ place_of items label
+place_of_room items item label h =
+    place_from-append 0 items (item ∷ []) label
+    ∙ ap (λ (later : Option ℕ). first_of_two (place_from 0 items label) later) (room_alone (0 + size_in items) item label h)
+    ∙ first_of_none (place_of items label)
+
+pub place_of_bind : (items : List Item) (bound label : ℕ)
+    → place_of (items ++ Bind bound ∷ []) label ≡ first_of_two (place_of items label) (cond (bound == label) (Some (0 + size_in items)) None)
+place_of_bind items bound label = place_from-append 0 items (Bind bound ∷ []) label

@@ -1,0 +1,95 @@
+//! From items to words.
+
+ghost use Rattle.std.specs.Prelude.{◌<◌, ◌^◌, ◌∷◌, [], IfOk, OnOk};
+ghost use Rattle.rv_asm.specs.Items.{size_in};
+ghost use Rattle.rv_asm.specs.Places.{place_in};
+ghost use Rattle.rv_asm.specs.Code.{leap_code, Adds, AddsItems, IsCode};
+
+use crate::assembler::Assembler;
+use crate::item::Item;
+use crate::label::Label;
+use crate::no::AsmNo;
+use crate::parts::{high_part, low_part};
+use crate::place::Places;
+use fsc_base::Bytes;
+use rv_isa::{Inst, Reg, encode, registers};
+
+/// Adds the word of an instruction. Refused with `Misfit` where it has none.
+#[tactic(auto, unfolding(rv_isa::specs::Spelling::word_of))]
+fn add_line(bytes: &mut Vec<u8>, inst: Inst) -> Result<(), AsmNo>
+    ensures { OnOk result (Adds bytes.old.items bytes.new.items (inst ∷ [])) }
+{
+    if !inst.is_valid() {
+        return Err(AsmNo::Misfit);
+    }
+    bytes.extend_from_slice(&encode(inst).to_le_bytes())?;
+    Ok(())
+}
+
+/// Adds a jump over a distance.
+fn add_leap(bytes: &mut Vec<u8>, distance: u32, link: Reg) -> Result<(), AsmNo>
+    ensures { OnOk result (Adds bytes.old.items bytes.new.items (leap_code distance link)) }
+{
+    add_line(
+        bytes,
+        Inst::Auipc {
+            rd: registers::T6,
+            imm: high_part(distance),
+        },
+    )?;
+    add_line(
+        bytes,
+        Inst::Jalr {
+            rd: link,
+            rs1: registers::T6,
+            imm: low_part(distance),
+        },
+    )
+}
+
+/// Adds what an item comes to at a place. Refused with `Misfit` where an instruction has no word, or a label is not bound.
+fn add_item(bytes: &mut Vec<u8>, places: &Places, at: u32, item: Item) -> Result<(), AsmNo>
+    ensures { OnOk result (AddsItems bytes.old.items bytes.new.items (place_in places.now) at (item ∷ [])) }
+{
+    match item {
+        Item::Line(inst) => add_line(bytes, inst),
+        Item::Bind(_) => Ok(()),
+        Item::Leap { label, link } => match places.get(label) {
+            None => Err(AsmNo::Misfit),
+            Some(to) => add_leap(bytes, to.wrapping_sub(at), link),
+        },
+    }
+}
+
+/// Adds what items come to, the first of them at place 0.
+fn add_items(bytes: &mut Vec<u8>, places: &Places, items: &[Item]) -> Result<(), AsmNo>
+    requires { size_in items.now < 2 ^ 32 }
+    ensures { OnOk result (AddsItems bytes.old.items bytes.new.items (place_in places.now) 0 items.now) }
+{
+    let mut at = 0;
+    for item in items {
+        add_item(bytes, places, at, *item)?;
+        at += item.size();
+    }
+    Ok(())
+}
+
+impl Assembler {
+    /// The code: the words of the instructions, one behind the other, the lowest byte of each first, where each jump goes to its
+    /// label. Refused with `Misfit` where an instruction has no word, because its immediate is outside the range of its format,
+    /// or where a label that a jump names is not bound; and for want of memory.
+    pub fn finish(self) -> Result<Bytes, AsmNo>
+        ensures { IfOk result (λ bytes. IsCode bytes self.items) }
+    {
+        let Assembler {
+            alloc,
+            size,
+            items,
+            places,
+            ..
+        } = self;
+        let mut bytes = Vec::with_capacity(alloc, size as usize)?;
+        add_items(&mut bytes, &places, items.as_slice())?;
+        Ok(Bytes::from_vec(bytes))
+    }
+}
