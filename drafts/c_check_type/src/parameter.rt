@@ -33,11 +33,21 @@ pub struct ParameterOf {
 #[derive(Drop)]
 pub struct Parameters {
     alloc: Global,
-    pub list: Items<ParameterOf>,
-    pub level: Level<Entity>,
+    list: Items<ParameterOf>,
+    level: Level<Entity>,
 }
 
 impl Parameters {
+    /// The parameters, and the scope that the list declared.
+    pub fn into_parts(self) -> (Items<ParameterOf>, Level<Entity>) {
+        let Parameters {
+            alloc: _,
+            list,
+            level,
+        } = self;
+        (list, level)
+    }
+
     /// Their types without their own qualifiers, as a function's type has them.
     pub(crate) fn kinds(&self) -> Result<TypeIds, NoMemory> {
         let mut kinds = TypeIds::new(self.alloc);

@@ -5,14 +5,14 @@
 
 pub mod enumeration;
 mod listed;
+mod named;
 pub mod node;
 pub mod part;
 pub mod record;
+mod single;
 mod specifier;
-mod token;
-mod type_name;
 
 pub use listed::{names, no_names};
+pub use named::{declare, parameter, type_name};
+pub use single::token;
 pub use specifier::{alias, has_type, is_typedef, word};
-pub use token::token;
-pub use type_name::{declare, parameter, type_name};

@@ -366,19 +366,25 @@ impl Scope {
         self.set_here(Space::Ordinary, name, Entity::Object(of, kind))
     }
 
-    /// The definition of a function has a list of names whose types are, promoted, these. K04 at the place where the innermost
-    /// scope has a declaration of the name whose parameters do not agree (C90 6.5.4.3).
+    /// The type that the innermost scope has for a name with linkage.
+    pub fn kind_of(&self, name: &Name) -> Option<TypeId> {
+        match self.find_here(Space::Ordinary, name) {
+            Some(Entity::Object(_, kind)) => Some(kind),
+            _ => None,
+        }
+    }
+
+    /// The definition of a function has a list of names whose types are, promoted, these; its scope had that type for it. K04 at
+    /// the place where the parameters of that type do not agree (C90 6.5.4.3).
     pub fn meet_list(
         &mut self,
-        name: &Name,
+        kind: TypeId,
         symbol: u32,
         promoted: Vec<TypeId>,
         place: Place,
     ) -> Result<(), CheckRefused> {
-        if let Some(Entity::Object(_, kind)) = self.find_here(Space::Ordinary, name) {
-            if !agrees_with_list(self.alloc, &self.types, kind, promoted.as_slice())? {
-                return Err(broken(CheckRule::K04, place));
-            }
+        if !agrees_with_list(self.alloc, &self.types, kind, promoted.as_slice())? {
+            return Err(broken(CheckRule::K04, place));
         }
         if let Some(note) = self.symbols.get_mut(symbol as usize) {
             note.promoted = Some(promoted);

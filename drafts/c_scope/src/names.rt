@@ -7,6 +7,7 @@ use c_types::TypeId;
 use check_refusal::{CheckRefused, CheckRule, broken};
 use fsc_base::{Name, NoMemory, Place};
 use scoped_names::{Level, Space};
+use type_relations::{element, qualifiers, unqualified};
 
 impl Scope {
     /// What the innermost declaration of a name says.
@@ -22,6 +23,13 @@ impl Scope {
     /// Whether the file's scope is the only open one.
     pub fn is_file(&self) -> bool {
         self.levels.depth() == 0
+    }
+
+    /// Whether a type has a const in it: its own, that of an array's element, or that of a member at any depth (C90 6.2.2.1).
+    pub fn has_const(&self, kind: TypeId) -> bool {
+        let element = element(&self.types, kind);
+        qualifiers(&self.types, element) & 1 != 0
+            || self.with_const.contains(&unqualified(&self.types, element))
     }
 
     /// Opens a scope.
