@@ -3,10 +3,10 @@
 ghost use Rattle.c_check_type.specs.Nested.{IsNested, IsNestedList};
 
 use crate::parameter::Parameters;
-use crate::specified::{Specified, qualifier_bit};
 use crate::types::Types;
 use c_conversion::Typed;
 use c_scope::Scope;
+use c_specifiers::{Specified, qualifier_bit};
 use c_syntax::{Declarator, Expr, Parameter, Part, PartForm, Pointer, Qualifier, Specifier};
 use c_types::{LayoutNo, TypeId, TypeIds, TypeNode, TypeTable};
 use check_refusal::{CheckRefused, CheckRule, broken};

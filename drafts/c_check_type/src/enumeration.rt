@@ -3,11 +3,10 @@
 ghost use Rattle.c_check_type.specs.Nested.{IsNested};
 
 use crate::parameter::Parameters;
-use crate::specified::Specified;
-use crate::tags::enum_body;
 use crate::types::Types;
 use c_conversion::Typed;
 use c_scope::{Entity, Scope, Space};
+use c_specifiers::{Specified, enum_body};
 use c_syntax::{Enumerator, Expr, Parameter, Specifier};
 use c_types::TypeId;
 use check_refusal::{CheckRefused, CheckRule, broken};

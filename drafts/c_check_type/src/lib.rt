@@ -6,15 +6,12 @@
 
 mod declarator;
 mod enumeration;
-mod keywords;
 mod parameter;
 mod record;
-mod specified;
 mod specifiers;
-mod tags;
 mod types;
 
+pub use c_specifiers::Specified;
 pub use declarator::{Defined, Own, adjusted};
 pub use parameter::{ParameterOf, Parameters};
-pub use specified::Specified;
 pub use types::Types;

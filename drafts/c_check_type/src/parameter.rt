@@ -3,10 +3,10 @@
 ghost use Rattle.c_check_type.specs.Nested.{IsNested, IsNestedList};
 
 use crate::declarator::adjusted;
-use crate::specified::Specified;
 use crate::types::Types;
 use c_conversion::Typed;
 use c_scope::{Entity, Level, Scope, Space};
+use c_specifiers::Specified;
 use c_syntax::{Declarator, Expr, Parameter, Specifier, Storage};
 use c_types::{TypeId, TypeIds, VOID};
 use check_refusal::{CheckRefused, CheckRule, broken};

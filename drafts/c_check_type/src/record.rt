@@ -3,11 +3,10 @@
 ghost use Rattle.c_check_type.specs.Nested.{IsNested, IsNestedList};
 
 use crate::parameter::Parameters;
-use crate::specified::Specified;
-use crate::tags::record_body;
 use crate::types::Types;
 use c_conversion::Typed;
 use c_scope::{Scope, is_reserved};
+use c_specifiers::{Specified, record_body};
 use c_syntax::{
     Declarator, Expr, Field as FieldDeclaration, FieldDeclarator, Parameter, RecordKind, Specifier,
 };

@@ -3,11 +3,10 @@
 ghost use Rattle.c_check_type.specs.Nested.{IsNested, IsNestedList};
 
 use crate::parameter::Parameters;
-use crate::specified::{Reading, Specified};
-use crate::tags::{enum_tag, record_tag};
 use crate::types::Types;
 use c_conversion::Typed;
 use c_scope::{Entity, Scope, Space};
+use c_specifiers::{Reading, Specified, enum_tag, record_tag};
 use c_syntax::{Enumerator, Expr, Field, Parameter, RecordKind, Specifier, SpecifierForm};
 use c_types::{TypeId, TypeNode, TypeTable};
 use check_refusal::{CheckRefused, CheckRule, broken};

@@ -3,10 +3,10 @@
 ghost use Rattle.c_check_type.specs.Nested.{IsNested, IsNestedList};
 
 use crate::parameter::Parameters;
-use crate::specified::Specified;
 use c_const::is_integral_constant;
 use c_conversion::{Typed, value};
 use c_scope::Scope;
+use c_specifiers::Specified;
 use c_syntax::{Expr, Parameter, Specifier, TypeName};
 use c_types::TypeId;
 use check_refusal::CheckRefused;

@@ -1,10 +1,9 @@
 //! Definitions of functions (C90 6.7.1).
 
-use crate::declaration::name_of;
-use crate::knot::{defined, specified};
 use crate::old_style::open_names;
 use crate::prototype::open_parameters;
-use crate::statement::body;
+use c_check_declaration::{defined, name_of, specified};
+use c_check_statement::body;
 use c_check_type::{Defined, Own, Specified};
 use c_scope::{LinkedName, Scope};
 use c_syntax::{Function, Storage};

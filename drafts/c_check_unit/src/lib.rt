@@ -4,14 +4,9 @@
 //! open, close and declare at the points where the grammar's reader does so.
 #![tactic(auto)]
 
-mod declaration;
 mod definition;
-mod initializer;
-mod knot;
 mod old_style;
 mod prototype;
-mod statement;
-mod switching;
 mod unit;
 
 pub use unit::check;

@@ -1,9 +1,8 @@
 //! Definitions with a list of names (C90 6.7.1).
 
-use crate::declaration::name_of;
 use crate::definition::Opened;
-use crate::knot::{declared, specified};
 use crate::prototype::count;
+use c_check_declaration::{declared, name_of, specified};
 use c_check_type::{Specified, adjusted};
 use c_scope::{Entity, LinkedName, Scope, Space, is_reserved};
 use c_syntax::{

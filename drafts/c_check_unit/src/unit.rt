@@ -3,8 +3,8 @@
 ghost use Rattle.std.specs.Prelude.{IfErr};
 ghost use Rattle.check_refusal.specs.Causes.{IsCheckRefusal};
 
-use crate::declaration::declaration;
 use crate::definition::define;
+use c_check_declaration::declaration;
 use c_scope::Scope;
 use c_syntax::{Declaration, External, Tree};
 use c_tree::{TStatement, TypedUnit};

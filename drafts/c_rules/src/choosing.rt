@@ -136,13 +136,30 @@ fn kind_of(
     })
 }
 
-/// Whether the second and third operands are converted: they are scalar.
-fn is_converted(choice: Choice) -> bool {
-    !matches!(choice, Choice::Voids | Choice::Records)
+/// The type of `?:`, and whether its second and third operands are converted to it: they are scalar.
+#[derive(Clone, Copy, Debug, PartialEq, Eq)]
+struct Chosen {
+    kind: TypeId,
+    is_converted: bool,
+}
+
+/// The type that `?:` has over these values. K30 where they are wrong.
+fn chosen_of(
+    alloc: Global,
+    types: &mut TypeTable,
+    yes: &Typed,
+    no: &Typed,
+    place: Place,
+) -> Result<Chosen, CheckRefused> {
+    let choice = choice_of(pair_of(alloc, types, &yes.tree, &no.tree)?);
+    Ok(Chosen {
+        kind: kind_of(alloc, types, choice, yes, no, place)?,
+        is_converted: !matches!(choice, Choice::Voids | Choice::Records),
+    })
 }
 
 /// `a ? b : c` of this type, to which the second and third operands are converted.
-fn chosen_as(
+fn converted_choice(
     alloc: Global,
     types: &TypeTable,
     test: Typed,
@@ -156,6 +173,36 @@ fn chosen_as(
     choose(alloc, test, yes, no, kind, place)
 }
 
+/// `a ? b : c` of this type.
+fn choice_as(
+    alloc: Global,
+    types: &TypeTable,
+    test: Typed,
+    yes: Typed,
+    no: Typed,
+    chosen: Chosen,
+    place: Place,
+) -> Result<Typed, NoMemory> {
+    if chosen.is_converted {
+        converted_choice(alloc, types, test, yes, no, chosen.kind, place)
+    } else {
+        choose(alloc, test, yes, no, chosen.kind, place)
+    }
+}
+
+/// `a ? b : c`, for a scalar a.
+fn scalar_conditional(
+    alloc: Global,
+    types: &mut TypeTable,
+    test: Typed,
+    yes: Typed,
+    no: Typed,
+    place: Place,
+) -> Result<Typed, CheckRefused> {
+    let chosen = chosen_of(alloc, types, &yes, &no, place)?;
+    Ok(choice_as(alloc, types, test, yes, no, chosen, place)?)
+}
+
 /// `a ? b : c`, for values a, b and c (C90 6.3.15). K30 where the operands are wrong.
 pub fn conditional(
     alloc: Global,
@@ -165,14 +212,9 @@ pub fn conditional(
     no: Typed,
     place: Place,
 ) -> Result<Typed, CheckRefused> {
-    if !is_scalar(types, test.tree.kind) {
-        return Err(broken(CheckRule::K30, place));
-    }
-    let choice = choice_of(pair_of(alloc, types, &yes.tree, &no.tree)?);
-    let kind = kind_of(alloc, types, choice, &yes, &no, place)?;
-    Ok(if is_converted(choice) {
-        chosen_as(alloc, types, test, yes, no, kind, place)?
+    if is_scalar(types, test.tree.kind) {
+        scalar_conditional(alloc, types, test, yes, no, place)
     } else {
-        choose(alloc, test, yes, no, kind, place)?
-    })
+        Err(broken(CheckRule::K30, place))
+    }
 }

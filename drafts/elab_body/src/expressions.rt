@@ -48,7 +48,8 @@ pub(crate) fn expression(out: &mut Emitter, e: &TExpr, height: u32) {
             pointer,
             size,
         } => {
-            pair(out, base.get(), index.get(), height);
+            expression(out, base.get(), height);
+            expression(out, index.get(), over(height, 1));
             out.indexes(*pointer, *size);
         }
         Form::PointerAdd {
@@ -57,11 +58,13 @@ pub(crate) fn expression(out: &mut Emitter, e: &TExpr, height: u32) {
             pointer,
             size,
         } => {
-            pair(out, left.get(), right.get(), height);
+            expression(out, left.get(), height);
+            expression(out, right.get(), over(height, 1));
             out.indexes(*pointer, *size);
         }
         Form::Binary(op, a, b) => {
-            pair(out, a.get(), b.get(), height);
+            expression(out, a.get(), height);
+            expression(out, b.get(), over(height, 1));
             out.operates(*op);
         }
         Form::PointerMinus {
@@ -69,11 +72,13 @@ pub(crate) fn expression(out: &mut Emitter, e: &TExpr, height: u32) {
             index,
             size,
         } => {
-            pair(out, pointer.get(), index.get(), height);
+            expression(out, pointer.get(), height);
+            expression(out, index.get(), over(height, 1));
             out.lowers(*size);
         }
         Form::PointerDifference { left, right, size } => {
-            pair(out, left.get(), right.get(), height);
+            expression(out, left.get(), height);
+            expression(out, right.get(), over(height, 1));
             out.spans(*size);
         }
         Form::Both(a, b) => {
@@ -112,7 +117,8 @@ pub(crate) fn expression(out: &mut Emitter, e: &TExpr, height: u32) {
             value,
             size,
         } => {
-            pair(out, target.get(), value.get(), height);
+            expression(out, target.get(), height);
+            expression(out, value.get(), over(height, 1));
             out.copies(*size);
         }
         Form::Compound {
@@ -157,13 +163,6 @@ pub(crate) fn expression(out: &mut Emitter, e: &TExpr, height: u32) {
             out.performs(*primitive);
         }
     }
-}
-
-/// Those of two operands.
-#[cycle(expressions)]
-fn pair(out: &mut Emitter, left: &TExpr, right: &TExpr, height: u32) {
-    expression(out, left, height);
-    expression(out, right, over(height, 1));
 }
 
 /// Those of the parts of a comma expression: the value of each but the last is dropped (C90 6.3.17).

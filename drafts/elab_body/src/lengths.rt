@@ -95,10 +95,13 @@ pub(crate) fn with_expression(locals: &Locals, before: u32, e: &TExpr) -> u32 {
             index,
             pointer,
             size,
-        } => with_pair(
+        } => with_expression(
             locals,
-            more(before, indexed_length(*pointer, *size)),
-            base.get(),
+            with_expression(
+                locals,
+                more(before, indexed_length(*pointer, *size)),
+                base.get(),
+            ),
             index.get(),
         ),
         Form::PointerAdd {
@@ -106,36 +109,53 @@ pub(crate) fn with_expression(locals: &Locals, before: u32, e: &TExpr) -> u32 {
             right,
             pointer,
             size,
-        } => with_pair(
+        } => with_expression(
             locals,
-            more(before, indexed_length(*pointer, *size)),
-            left.get(),
+            with_expression(
+                locals,
+                more(before, indexed_length(*pointer, *size)),
+                left.get(),
+            ),
             right.get(),
         ),
-        Form::Binary(op, a, b) => with_pair(
+        Form::Binary(op, a, b) => with_expression(
             locals,
-            more(before, operated_length(*op)),
-            a.get(),
+            with_expression(locals, more(before, operated_length(*op)), a.get()),
             b.get(),
         ),
         Form::PointerMinus {
             pointer,
             index,
             size,
-        } => with_pair(
+        } => with_expression(
             locals,
-            more(before, lowered_length(*size)),
-            pointer.get(),
+            with_expression(locals, more(before, lowered_length(*size)), pointer.get()),
             index.get(),
         ),
         Form::PointerDifference { left, right, .. } => {
-            with_pair(locals, more(before, 3), left.get(), right.get())
+            with_expression(
+                locals,
+                with_expression(locals, more(before, 3), left.get()),
+                right.get(),
+            )
         }
-        Form::Both(a, b) => with_pair(locals, more(before, 7), a.get(), b.get()),
-        Form::Either(a, b) => with_pair(locals, more(before, 9), a.get(), b.get()),
+        Form::Both(a, b) => with_expression(
+            locals,
+            with_expression(locals, more(before, 7), a.get()),
+            b.get(),
+        ),
+        Form::Either(a, b) => with_expression(
+            locals,
+            with_expression(locals, more(before, 9), a.get()),
+            b.get(),
+        ),
         Form::Choose(c, a, b) => with_expression(
             locals,
-            with_pair(locals, more(before, 4), c.get(), a.get()),
+            with_expression(
+                locals,
+                with_expression(locals, more(before, 4), c.get()),
+                a.get(),
+            ),
             b.get(),
         ),
         Form::Comma(parts) => with_expressions(
@@ -147,24 +167,34 @@ pub(crate) fn with_expression(locals: &Locals, before: u32, e: &TExpr) -> u32 {
             target,
             value,
             access,
-        } => with_pair(
+        } => with_expression(
             locals,
-            with_store(locals, before, target.get(), *access),
-            target.get(),
+            with_expression(
+                locals,
+                with_store(locals, before, target.get(), *access),
+                target.get(),
+            ),
             value.get(),
         ),
         Form::AssignRecord { target, value, .. } => {
-            with_pair(locals, more(before, 1), target.get(), value.get())
+            with_expression(
+                locals,
+                with_expression(locals, more(before, 1), target.get()),
+                value.get(),
+            )
         }
         Form::Compound {
             target,
             op,
             value,
             access,
-        } => with_pair(
+        } => with_expression(
             locals,
-            with_compound(locals, before, target.get(), *op, *access),
-            target.get(),
+            with_expression(
+                locals,
+                with_compound(locals, before, target.get(), *op, *access),
+                target.get(),
+            ),
             value.get(),
         ),
         Form::Step {
@@ -202,12 +232,6 @@ pub(crate) fn with_expression(locals: &Locals, before: u32, e: &TExpr) -> u32 {
             with_expressions(locals, more(before, 1), arguments.as_slice())
         }
     }
-}
-
-/// `before` and those of two expressions.
-#[cycle(lengths)]
-fn with_pair(locals: &Locals, before: u32, left: &TExpr, right: &TExpr) -> u32 {
-    with_expression(locals, with_expression(locals, before, left), right)
 }
 
 /// `before` and those of expressions.

@@ -285,7 +285,7 @@ fn declare(
 }
 
 /// The name of a declarator; the grammar has none without. K02 at it where there is none.
-pub(crate) fn name_of(declarator: &Declarator) -> Result<&Name, CheckRefused> {
+pub fn name_of(declarator: &Declarator) -> Result<&Name, CheckRefused> {
     match declarator.name() {
         Some(name) => Ok(name),
         None => Err(broken(CheckRule::K02, declarator.place)),
@@ -340,7 +340,7 @@ fn init_declarators(
 
 /// A declaration, outside of functions or in a block. The initialisers of automatic names are added to the statements. K15 at a
 /// storage class, K02 at the declaration where it declares nothing; the others at specifiers and declarators.
-pub(crate) fn declaration(
+pub fn declaration(
     alloc: Global,
     scope: &mut Scope,
     is_file: bool,

@@ -20,7 +20,7 @@ pub struct Specified {
 
 /// A list of specifiers so far.
 #[derive(Clone, Copy, Debug)]
-pub(crate) struct Reading {
+pub struct Reading {
     /// Where the list begins.
     pub place: Place,
     pub storage: Option<Storage>,
@@ -36,7 +36,7 @@ pub(crate) struct Reading {
 }
 
 /// The bit of a qualifier.
-pub(crate) fn qualifier_bit(qualifier: Qualifier) -> u32 {
+pub fn qualifier_bit(qualifier: Qualifier) -> u32 {
     match qualifier {
         Qualifier::Const => 1,
         Qualifier::Volatile => 2,

@@ -111,7 +111,7 @@ fn completed(
 
 /// What an initialiser stores in an object of a type, and the type that the object has then. K14 at an item that is one too many, does
 /// not fit or, where the object is static, is not constant; L05 at the initialiser where it makes an array too large.
-pub(crate) fn laid_out(
+pub fn laid_out(
     alloc: Global,
     scope: &mut Scope,
     kind: TypeId,

@@ -74,7 +74,7 @@ fn declared_record(
 /// The type that `struct tag` or `union tag` names at a place, and whether this declares it: the visible one, or a new one that is
 /// declared here. As the sole specifier of a declaration without declarators it asks the innermost scope alone. K03 where the
 /// tag is one of another kind; L12 where a new one is kept for primitives.
-pub(crate) fn record_tag(
+pub fn record_tag(
     alloc: Global,
     scope: &mut Scope,
     kind: RecordKind,
@@ -120,7 +120,7 @@ fn named_body(
 }
 
 /// The type that a body of a struct or union is the body of, as of one with a tag; without one it is new.
-pub(crate) fn record_body(
+pub fn record_body(
     alloc: Global,
     scope: &mut Scope,
     kind: RecordKind,
@@ -135,7 +135,7 @@ pub(crate) fn record_body(
 
 /// The type that `enum tag` names. At the place K19 where the tag is not visible, or its body is open, and K03 where it is one of
 /// another kind.
-pub(crate) fn enum_tag(scope: &Scope, tag: &Name, place: Place) -> Result<TypeId, CheckRefused> {
+pub fn enum_tag(scope: &Scope, tag: &Name, place: Place) -> Result<TypeId, CheckRefused> {
     let Some(id) = tagged(scope.find(Space::Tag, tag)) else {
         return Err(broken(CheckRule::K19, place));
     };
@@ -150,7 +150,7 @@ pub(crate) fn enum_tag(scope: &Scope, tag: &Name, place: Place) -> Result<TypeId
 
 /// The new type that a body of an enum is the body of. K03 at the place where the innermost scope has the tag, L12 where it is
 /// kept for primitives.
-pub(crate) fn enum_body(
+pub fn enum_body(
     alloc: Global,
     scope: &mut Scope,
     tag: &Option<Name>,

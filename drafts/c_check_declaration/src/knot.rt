@@ -11,7 +11,7 @@ use fsc_base::Place;
 use std::alloc::Global;
 
 /// How many nodes of a tree may lie one above the other; a tree of the grammar's reader has no more.
-pub(crate) const ROOM: u32 = 256;
+pub const ROOM: u32 = 256;
 
 /// An expression, as it stands. L03 where too many nodes lie above it.
 #[cycle(knot)]
@@ -116,20 +116,20 @@ fn parameters(
 }
 
 /// The value of an expression; of an array that is no lvalue, or of what has no value, the expression as it is (C90 6.2.2.1).
-pub(crate) fn valued(alloc: Global, scope: &mut Scope, e: &Expr) -> Result<Typed, CheckRefused> {
+pub fn valued(alloc: Global, scope: &mut Scope, e: &Expr) -> Result<Typed, CheckRefused> {
     let e = expr(alloc, scope, ROOM, e)?;
     Ok(value(alloc, &mut scope.types, e)?)
 }
 
 /// The value of an expression that is used for it. K53 at it where it has none.
-pub(crate) fn needed(alloc: Global, scope: &mut Scope, e: &Expr) -> Result<Typed, CheckRefused> {
+pub fn needed(alloc: Global, scope: &mut Scope, e: &Expr) -> Result<Typed, CheckRefused> {
     let e = expr(alloc, scope, ROOM, e)?;
     used(alloc, &mut scope.types, e)
 }
 
 /// What the specifiers of a declaration or a definition say; `is_alone` where no declarator stands behind them, and `place` is where
 /// they stand if there are none.
-pub(crate) fn specified(
+pub fn specified(
     alloc: Global,
     scope: &mut Scope,
     list: &[Specifier],
@@ -147,7 +147,7 @@ pub(crate) fn specified(
 }
 
 /// The type that a declarator makes of that of its specifiers.
-pub(crate) fn declared(
+pub fn declared(
     alloc: Global,
     scope: &mut Scope,
     declarator: &Declarator,
@@ -164,7 +164,7 @@ pub(crate) fn declared(
 }
 
 /// The same of the definition of a function, with the list behind its name.
-pub(crate) fn defined(
+pub fn defined(
     alloc: Global,
     scope: &mut Scope,
     declarator: &Declarator,

@@ -1,10 +1,9 @@
 //! Statements (C90 6.6).
 
-ghost use Rattle.c_check_unit.specs.Nested.{IsNested};
+ghost use Rattle.c_check_statement.specs.Nested.{IsNested};
 
-use crate::declaration::declaration;
-use crate::knot::{ROOM, needed, valued};
 use crate::switching::Switches;
+use c_check_declaration::{ROOM, declaration, needed, valued};
 use c_const::is_integral_constant;
 use c_conversion::{is_integer, is_scalar, promoted};
 use c_rules::fitted;
@@ -490,7 +489,7 @@ impl<
 }
 
 /// The body of a function, whose declarations stand in the innermost scope, that of its parameters.
-pub(crate) fn body(
+pub fn body(
     alloc: Global,
     scope: &mut Scope,
     given: &Compound<Statement>,

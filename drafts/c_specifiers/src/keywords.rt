@@ -29,7 +29,7 @@ enum Sign {
 
 /// The keywords of a list so far.
 #[derive(Clone, Copy, Debug)]
-pub(crate) struct Keywords {
+pub struct Keywords {
     base: Option<Base>,
     length: Option<Length>,
     sign: Option<Sign>,
