@@ -36,11 +36,6 @@ pub(crate) fn bare_node(types: &TypeTable, id: TypeId) -> &TypeNode {
     }
 }
 
-/// What a type is, its qualifiers aside.
-pub(crate) fn target_of(types: &TypeTable, id: TypeId) -> Target {
-    target_in(bare_node(types, id))
-}
-
 /// A number converted.
 fn narrow(conversion: Conversion, number: u32) -> u32 {
     match conversion {
@@ -52,13 +47,31 @@ fn narrow(conversion: Conversion, number: u32) -> u32 {
 
 /// A value as one of a type. A pointer has no constant integer but where it is the place of a member or element under a number;
 /// other types have none.
-pub(crate) fn converted(target: Target, conversion: Conversion, value: Value) -> Option<Value> {
+pub(crate) fn converted(
+    types: &TypeTable,
+    kind: TypeId,
+    conversion: Conversion,
+    value: Option<Value>,
+) -> Option<Value> {
+    match value {
+        Some(value) => converted_value(target_in(bare_node(types, kind)), conversion, value),
+        None => None,
+    }
+}
+
+/// The same of a value.
+fn converted_value(target: Target, conversion: Conversion, value: Value) -> Option<Value> {
     match target {
         Target::Pointer => Some(value.as_pointer()),
-        Target::Integer => match value.as_integer() {
-            Some(number) => Some(Value::Whole(narrow(conversion, number))),
-            None => None,
-        },
+        Target::Integer => integer(conversion, value),
         Target::Neither => None,
+    }
+}
+
+/// A value as an integer.
+fn integer(conversion: Conversion, value: Value) -> Option<Value> {
+    match value.as_integer() {
+        Some(number) => Some(Value::Whole(narrow(conversion, number))),
+        None => None,
     }
 }

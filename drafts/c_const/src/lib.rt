@@ -4,6 +4,7 @@
 mod conversion;
 mod forms;
 mod integral;
+mod row;
 mod value;
 
 pub use forms::constant;

@@ -1,6 +1,5 @@
 //! Values of constant expressions while they are computed.
 
-use c_ops::{Operator, UnaryOperator};
 use c_tree::{Known, Symbol};
 use fsc_base::Word;
 
@@ -45,10 +44,9 @@ impl Value {
     pub fn place_under(self, bytes: u32) -> Option<Value> {
         match self {
             Value::Whole(_) => None,
-            Value::Made(number, reach) => Some(Value::Made(
-                number.wrapping_add(bytes),
-                under(reach),
-            )),
+            Value::Made(number, reach) => {
+                Some(Value::Made(number.wrapping_add(bytes), under(reach)))
+            }
             Value::At(symbol, offset) => Some(Value::At(symbol, offset.wrapping_add(bytes))),
         }
     }
@@ -98,32 +96,5 @@ impl Value {
             Value::Made(number, _) => Known::Number(number),
             Value::At(symbol, offset) => Known::Address { symbol, offset },
         }
-    }
-}
-
-/// What an operator with one operand gives (C90 6.3.3.3). A pointer has no constant one.
-pub(crate) fn turned(op: UnaryOperator, operand: Value) -> Option<Value> {
-    match operand.number() {
-        Some(number) => Some(Value::Whole(op.apply(plain(number)).value)),
-        None => None,
-    }
-}
-
-/// What an operator on two integers gives (C90 6.3.5 to 6.3.12). A division by zero gives nothing where it is evaluated, and else
-/// any number; pointers have no constant one.
-pub(crate) fn combined(op: Operator, left: Value, right: Value, is_live: bool) -> Option<Value> {
-    match (left.number(), right.number()) {
-        (Some(left), Some(right)) => computed(op, left, right, is_live),
-        (Some(_), None) => None,
-        (None, Some(_)) => None,
-        (None, None) => None,
-    }
-}
-
-/// The same of two numbers.
-fn computed(op: Operator, left: u32, right: u32, is_live: bool) -> Option<Value> {
-    match op.apply(plain(left), plain(right)) {
-        Some(word) => Some(Value::Whole(word.value)),
-        None => { if is_live { None } else { Some(Value::Whole(0)) } }
     }
 }

@@ -90,10 +90,12 @@ fn numbers(alloc: Global, symbols: &[SymbolNote], drafts: &[Draft]) -> Result<Nu
     Ok(numbers)
 }
 
-/// A refusal of numbering: a number of no draft can't come, and is refused as an undeclared name.
-fn refusal(no: NumberNo) -> CheckRefused {
+/// A refusal of numbering, for trees of a declarator there. A number of no draft, or too deep a tree, can't come; they are refused as an
+/// undeclared name and as too deep a text.
+fn refusal(no: NumberNo, place: Place) -> CheckRefused {
     match no {
         NumberNo::Absent(place) => broken(CheckRule::K19, place),
+        NumberNo::Deep => broken(CheckRule::L03, place),
         NumberNo::NoMemory => CheckRefused::NoMemory,
     }
 }
@@ -126,6 +128,18 @@ fn text_pieces(alloc: Global, bytes: &Bytes, place: Place) -> Result<Items<Piece
     Ok(pieces)
 }
 
+/// Where a symbol's first declarator stands; of no symbol the first line of the unit.
+fn place_of(symbols: &[SymbolNote], symbol: u32) -> Place {
+    match symbols.get(symbol as usize) {
+        Some(note) => note.place,
+        None => Place {
+            unit: 0,
+            file: 0,
+            line: 1,
+        },
+    }
+}
+
 /// What ends the parts of a unit.
 #[derive(Clone, Copy)]
 struct Settling<'a> {
@@ -156,11 +170,14 @@ impl Settling<'_> {
     }
 
     /// Pieces whose objects have their new numbers.
-    fn pieces(&self, pieces: Items<Piece>) -> Result<Items<Piece>, CheckRefused> {
+    fn pieces(&self, pieces: Items<Piece>, place: Place) -> Result<Items<Piece>, CheckRefused> {
         if self.numbers.are_all_kept() {
             return Ok(pieces);
         }
-        numbered_pieces(self.alloc, self.numbers, pieces.as_slice()).map_err(refusal)
+        match numbered_pieces(self.alloc, self.numbers, pieces.as_slice()) {
+            Ok(pieces) => Ok(pieces),
+            Err(no) => Err(refusal(no, place)),
+        }
     }
 
     /// The object of a symbol.
@@ -174,7 +191,7 @@ impl Settling<'_> {
             return Err(broken(CheckRule::K19, place));
         };
         let name = Name::from_slice(self.alloc, note.name.as_slice())?;
-        self.object(name, note.kind, self.pieces(pieces)?, place)
+        self.object(name, note.kind, self.pieces(pieces, place)?, place)
     }
 
     /// The object of a string literal.
@@ -199,7 +216,7 @@ impl Settling<'_> {
         } = draft;
         match of {
             DraftOf::Text(bytes) => self.text_object(&bytes, kind, place),
-            DraftOf::Static(name) => self.object(name, kind, self.pieces(pieces)?, place),
+            DraftOf::Static(name) => self.object(name, kind, self.pieces(pieces, place)?, place),
             DraftOf::Linked(symbol) => self.linked_object(symbol, pieces, place),
         }
     }
@@ -217,7 +234,11 @@ impl Settling<'_> {
 
     /// A function whose objects have their new numbers.
     fn function(&self, function: TypedFunction) -> Result<TypedFunction, CheckRefused> {
-        numbered_function(self.alloc, self.numbers, function).map_err(refusal)
+        let place = place_of(self.symbols, function.symbol);
+        match numbered_function(self.alloc, self.numbers, function) {
+            Ok(function) => Ok(function),
+            Err(no) => Err(refusal(no, place)),
+        }
     }
 
     /// The functions.
@@ -280,34 +301,71 @@ fn typed_symbols(
     Ok(symbols)
 }
 
+/// What a unit is made of at its end.
+#[derive(Drop)]
+struct Parts {
+    types: TypeTable,
+    symbols: Vec<SymbolNote>,
+    drafts: Vec<Draft>,
+    functions: Vec<TypedFunction>,
+}
+
+/// What a scope leaves at the end of its unit.
+fn parts(scope: Scope) -> Parts {
+    let Scope {
+        alloc: _,
+        types,
+        with_const: _,
+        levels: _,
+        linked: _,
+        symbols,
+        drafts,
+        frame: _,
+        functions,
+        open: _,
+        quiet: _,
+    } = scope;
+    Parts {
+        types,
+        symbols,
+        drafts,
+        functions,
+    }
+}
+
+/// The unit of these parts, whose objects have these numbers.
+fn unit(alloc: Global, parts: Parts, numbers: &Numbers) -> Result<TypedUnit, CheckRefused> {
+    let Parts {
+        types,
+        symbols,
+        drafts,
+        functions,
+    } = parts;
+    let settling = Settling {
+        alloc,
+        types: &types,
+        symbols: symbols.as_slice(),
+        numbers,
+    };
+    let objects = settling.objects(drafts)?;
+    let functions = settling.functions(functions)?;
+    let symbols = typed_symbols(alloc, numbers, symbols)?;
+    Ok(TypedUnit {
+        types,
+        symbols,
+        functions,
+        objects,
+    })
+}
+
 impl Scope {
     /// The unit, at its end. At a symbol's first declarator, in order of symbols: K16 where its linkage is internal and it is used
     /// and not defined, K18 where a tentative definition is the only one and its type is not complete (C90 6.7.2).
     pub fn settle(self) -> Result<TypedUnit, CheckRefused> {
-        let Scope {
-            alloc,
-            mut types,
-            mut symbols,
-            drafts,
-            functions,
-            ..
-        } = self;
-        settle_symbols(&mut types, symbols.as_mut_slice())?;
-        let numbers = numbers(alloc, symbols.as_slice(), drafts.as_slice())?;
-        let settling = Settling {
-            alloc,
-            types: &types,
-            symbols: symbols.as_slice(),
-            numbers: &numbers,
-        };
-        let objects = settling.objects(drafts)?;
-        let functions = settling.functions(functions)?;
-        let symbols = typed_symbols(alloc, &numbers, symbols)?;
-        Ok(TypedUnit {
-            types,
-            symbols,
-            functions,
-            objects,
-        })
+        let alloc = self.alloc;
+        let mut parts = parts(self);
+        settle_symbols(&mut parts.types, parts.symbols.as_mut_slice())?;
+        let numbers = numbers(alloc, parts.symbols.as_slice(), parts.drafts.as_slice())?;
+        unit(alloc, parts, &numbers)
     }
 }

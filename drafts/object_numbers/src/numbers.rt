@@ -8,6 +8,8 @@ use std::alloc::{AllocError, AllocFailed, Global};
 pub enum NumberNo {
     /// The expression there names an object that is not kept, or that isn't one.
     Absent(Place),
+    /// Statements, or expressions, lie deeper than any text's.
+    Deep,
     /// No memory was left.
     NoMemory,
 }

@@ -98,7 +98,7 @@ fn stack_segment(alloc: Global) -> Segment {
 
 /// The counts of the blocks at the start of a run.
 fn counts_of(heap: &Heap, statics: &Statics) -> Result<Counts, AsmNo> {
-    match u32::try_from(heap.made()) {
+    match u32::try_from(heap.count()) {
         Err(_) => Err(AsmNo::Misfit),
         Ok(made) => Ok(Counts {
             made,

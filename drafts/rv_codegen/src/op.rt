@@ -8,6 +8,7 @@ use rv_templates as template;
 use rv_templates::Site;
 
 /// A function whose code is made.
+#[derive(Clone, Copy)]
 pub(crate) struct Body<'a> {
     pub site: Site,
     pub names: Names<'a>,

@@ -131,7 +131,7 @@ pub(crate) fn emit_units(
     source: Source,
     shapes: &[Vec<u32>],
 ) -> Result<Contents, AsmNo> {
-    let mut contents = Contents::new(alloc, source.program.heap.made())?;
+    let mut contents = Contents::new(alloc, source.program.heap.count())?;
     let units = source.program.units.as_slice();
     for (index, (unit, numbers)) in units.iter().zip(shapes).enumerate() {
         let numbers = numbers.as_slice();
