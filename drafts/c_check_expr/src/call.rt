@@ -4,8 +4,8 @@ ghost use Rattle.std.specs.Prelude.{◌≡◌};
 ghost use Rattle.c_check_expr.specs.Nested.{IsNested};
 
 use crate::part::Expressions;
+use c_calls::{Callee, call_of, call_primitive, callee_of};
 use c_conversion::Typed;
-use c_rules::{Callee, call_of, call_primitive, callee_of};
 use c_scope::{Scope, Space, is_reserved};
 use c_syntax::{Expr, ExprForm, TypeName};
 use c_types::TypeId;
@@ -38,8 +38,7 @@ fn call_number(scope: &mut Scope, callee: Option<Callee>) -> Result<u32, NoMemor
 impl<
     E: Fn(Global, &mut Scope, u32, &Expr) -> Result<Typed, CheckRefused>,
     T: Fn(Global, &mut Scope, u32, &TypeName) -> Result<TypeId, CheckRefused>,
-> Expressions<E, T>
-{
+> Expressions<E, T> {
     /// A call of a primitive. L12.
     fn primitive_call(
         &self,

@@ -16,15 +16,9 @@ use std::alloc::Global;
 impl<
     E: Fn(Global, &mut Scope, u32, &Expr) -> Result<Typed, CheckRefused>,
     T: Fn(Global, &mut Scope, u32, &TypeName) -> Result<TypeId, CheckRefused>,
-> Expressions<E, T>
-{
+> Expressions<E, T> {
     /// A form that stands at this place.
-    fn form(
-        &self,
-        scope: &mut Scope,
-        form: &ExprForm,
-        place: Place,
-    ) -> Result<Typed, CheckRefused>
+    fn form(&self, scope: &mut Scope, form: &ExprForm, place: Place) -> Result<Typed, CheckRefused>
         requires expr { IsNested self.now.room (E.pre self.now.expr) }
         requires type_name { IsNested self.now.room (T.pre self.now.type_name) }
     {

@@ -29,8 +29,7 @@ fn note_address(scope: &mut Scope, e: &Typed) {
 impl<
     E: Fn(Global, &mut Scope, u32, &Expr) -> Result<Typed, CheckRefused>,
     T: Fn(Global, &mut Scope, u32, &TypeName) -> Result<TypeId, CheckRefused>,
-> Expressions<E, T>
-{
+> Expressions<E, T> {
     /// `a[b]`. K20.
     pub(crate) fn subscript(
         &self,

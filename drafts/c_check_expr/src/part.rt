@@ -28,8 +28,7 @@ pub(crate) fn has_const(scope: &Scope, kind: TypeId) -> bool {
 impl<
     E: Fn(Global, &mut Scope, u32, &Expr) -> Result<Typed, CheckRefused>,
     T: Fn(Global, &mut Scope, u32, &TypeName) -> Result<TypeId, CheckRefused>,
-> Expressions<E, T>
-{
+> Expressions<E, T> {
     /// A part as it stands.
     pub(crate) fn part(&self, scope: &mut Scope, e: &Expr) -> Result<Typed, CheckRefused>
         requires { IsNested self.now.room (E.pre self.now.expr) }

@@ -22,11 +22,7 @@ fn named(scope: &mut Scope, entity: Entity, place: Place) -> Result<Typed, Check
 }
 
 /// A name. L12 where it is kept for primitives, K19 where it is not declared.
-pub(crate) fn name(
-    scope: &mut Scope,
-    name: &Name,
-    place: Place,
-) -> Result<Typed, CheckRefused> {
+pub(crate) fn name(scope: &mut Scope, name: &Name, place: Place) -> Result<Typed, CheckRefused> {
     if is_reserved(name) {
         return Err(broken(CheckRule::L12, place));
     }
@@ -66,11 +62,7 @@ fn text_kind(scope: &mut Scope, length: usize, place: Place) -> Result<TypeId, C
 }
 
 /// A string literal, which is an object of type array of char (C90 6.1.4).
-pub(crate) fn text(
-    scope: &mut Scope,
-    bytes: &Bytes,
-    place: Place,
-) -> Result<Typed, CheckRefused> {
+pub(crate) fn text(scope: &mut Scope, bytes: &Bytes, place: Place) -> Result<Typed, CheckRefused> {
     let kind = text_kind(scope, bytes.as_slice().len(), place)?;
     let draft = scope.draft_text(bytes, kind, place)?;
     Ok(static_object(Symbol::Object(draft), kind, place))

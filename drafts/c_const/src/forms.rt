@@ -1,5 +1,9 @@
 //! Constant expressions, one row for each form (C90 6.4). What isn't evaluated may divide by zero, but has to be of a constant form.
 
+ghost use Rattle.std.specs.Prelude.{◌≡◌};
+ghost use Rattle.c_tree.specs.Constants.{constant_of, known_of};
+ghost use Rattle.c_const.specs.Told.{told_of};
+
 use crate::conversion::converted;
 use crate::row::{both, chosen, combined, either, element, is_set, lowered, place, raised, turned};
 use crate::value::Value;
@@ -7,8 +11,11 @@ use c_tree::{Form, Known, Side, TExpr};
 use c_types::TypeTable;
 
 /// The value of an expression; None where it is no constant expression.
+#[tactic(auto, unfolding(c_tree::specs::Constants::constant_of))]
 #[cycle(constants)]
-pub(crate) fn value_of(types: &TypeTable, e: &TExpr, is_live: bool) -> Option<Value> {
+pub(crate) fn value_of(types: &TypeTable, e: &TExpr, is_live: bool) -> Option<Value>
+    ensures { told_of result ≡ (constant_of types.now e.now).value is_live }
+{
     match &e.form {
         Form::Number(number) => Some(Value::Whole(*number)),
         Form::Convert(a, conversion) => {
@@ -91,8 +98,11 @@ pub(crate) fn value_of(types: &TypeTable, e: &TExpr, is_live: bool) -> Option<Va
 }
 
 /// The address that an expression designates; None where it is no constant one.
+#[tactic(auto, unfolding(c_tree::specs::Constants::constant_of))]
 #[cycle(constants)]
-fn path_of(types: &TypeTable, e: &TExpr, is_live: bool) -> Option<Value> {
+fn path_of(types: &TypeTable, e: &TExpr, is_live: bool) -> Option<Value>
+    ensures { told_of result ≡ (constant_of types.now e.now).path is_live }
+{
     match &e.form {
         Form::Static(symbol) => Some(Value::At(*symbol, 0)),
         Form::Deref(a) => value_of(types, a.get(), is_live),
@@ -146,7 +156,9 @@ fn path_of(types: &TypeTable, e: &TExpr, is_live: bool) -> Option<Value> {
 /// The value of a constant expression (C90 6.4): an integer, or an address constant; None where it is none. An integer that was
 /// cast to a pointer is one, and such a pointer as an integer where it is the place of a member or element, as `offsetof` computes
 /// it. It takes no memory.
-pub fn constant(types: &TypeTable, e: &TExpr) -> Option<Known> {
+pub fn constant(types: &TypeTable, e: &TExpr) -> Option<Known>
+    ensures { result ≡ known_of types.now e.now }
+{
     match value_of(types, e, true) {
         Some(value) => Some(value.known()),
         None => None,

@@ -1,5 +1,10 @@
 //! Values of constant expressions while they are computed.
 
+ghost use Rattle.std.specs.Prelude.{◌≡◌};
+ghost use Rattle.c_ops.specs.Words.{plain as plain_word};
+ghost use Rattle.c_tree.specs.Constants.{under as under_of, place_under as placed, pointer_behind as behind, number_in, as_pointer as pointer_of, as_integer as integer_of, known_in};
+ghost use Rattle.c_const.specs.Told.{told, told_of, told_reach};
+
 use c_tree::{Known, Symbol};
 use fsc_base::Word;
 
@@ -26,12 +31,16 @@ pub(crate) enum Value {
 }
 
 /// A word without a base.
-pub(crate) fn plain(value: u32) -> Word {
+pub(crate) fn plain(value: u32) -> Word
+    ensures { result ≡ plain_word value }
+{
     Word { value, block: 0 }
 }
 
 /// What a pointer becomes where the place of a member or element under it is taken.
-fn under(reach: Reach) -> Reach {
+fn under(reach: Reach) -> Reach
+    ensures { told_reach result ≡ under_of (told_reach reach) }
+{
     match reach {
         Reach::Bare => Reach::Under,
         Reach::Under => Reach::Under,
@@ -41,7 +50,9 @@ fn under(reach: Reach) -> Reach {
 
 impl Value {
     /// The place of a member or element so many bytes behind (C90 6.3.2.3, 6.3.2.1). An integer has none.
-    pub fn place_under(self, bytes: u32) -> Option<Value> {
+    pub fn place_under(self, bytes: u32) -> Option<Value>
+        ensures { told_of result ≡ placed bytes (told self) }
+    {
         match self {
             Value::Whole(_) => None,
             Value::Made(number, reach) => {
@@ -52,7 +63,9 @@ impl Value {
     }
 
     /// A pointer so many bytes behind (C90 6.3.6). An integer has none.
-    pub fn pointer_behind(self, bytes: u32) -> Option<Value> {
+    pub fn pointer_behind(self, bytes: u32) -> Option<Value>
+        ensures { told_of result ≡ behind bytes (told self) }
+    {
         match self {
             Value::Whole(_) => None,
             Value::Made(number, _) => Some(Value::Made(number.wrapping_add(bytes), Reach::Other)),
@@ -61,7 +74,9 @@ impl Value {
     }
 
     /// An integer; None of a pointer.
-    pub fn number(self) -> Option<u32> {
+    pub fn number(self) -> Option<u32>
+        ensures { result ≡ number_in (told self) }
+    {
         match self {
             Value::Whole(number) => Some(number),
             Value::Made(_, _) => None,
@@ -70,7 +85,9 @@ impl Value {
     }
 
     /// As a pointer.
-    pub fn as_pointer(self) -> Value {
+    pub fn as_pointer(self) -> Value
+        ensures { told result ≡ pointer_of (told self) }
+    {
         match self {
             Value::Whole(number) => Value::Made(number, Reach::Bare),
             Value::Made(number, reach) => Value::Made(number, reach),
@@ -79,7 +96,9 @@ impl Value {
     }
 
     /// As an integer. Of the pointers only one under a number has a constant one.
-    pub fn as_integer(self) -> Option<u32> {
+    pub fn as_integer(self) -> Option<u32>
+        ensures { result ≡ integer_of (told self) }
+    {
         match self {
             Value::Whole(number) => Some(number),
             Value::Made(number, Reach::Under) => Some(number),
@@ -90,7 +109,9 @@ impl Value {
     }
 
     /// As it is told.
-    pub fn known(self) -> Known {
+    pub fn known(self) -> Known
+        ensures { result ≡ known_in (told self) }
+    {
         match self {
             Value::Whole(number) => Known::Number(number),
             Value::Made(number, _) => Known::Number(number),

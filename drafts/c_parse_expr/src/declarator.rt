@@ -118,7 +118,9 @@ impl<
         ensures { MayTake parser.old result parser.new }
     {
         let mut inner = innermost;
-        while parser.is_at(Punctuator::LeftBracket) || parser.is_at(Punctuator::LeftParenthesis) {
+        'more: while parser.is_at(Punctuator::LeftBracket)
+            || parser.is_at(Punctuator::LeftParenthesis)
+        {
             inner = self.suffix(parser, inner)?;
         }
         Ok(inner)

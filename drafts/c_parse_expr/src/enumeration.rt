@@ -57,7 +57,7 @@ impl<
     {
         let mut enumerators = Read::none(self.alloc);
         self.enumerator(parser, &mut enumerators)?;
-        while parser.is_at(Punctuator::Comma) {
+        'more: while parser.is_at(Punctuator::Comma) {
             self.next_enumerator(parser, &mut enumerators)?;
         }
         Ok(enumerators)

@@ -59,7 +59,7 @@ impl<
         let place = first.node.place;
         let mut parts = Read::none(self.alloc);
         parts.add(first)?;
-        while parser.is_at(Punctuator::Comma) {
+        'more: while parser.is_at(Punctuator::Comma) {
             self.comma_part(parser, &mut parts)?;
         }
         Ok(node::comma(place, parts))
@@ -131,7 +131,7 @@ impl<
         ensures { MayTake parser.old result parser.new }
     {
         let mut left = first;
-        while let Some(operator) = parser.operator(least) {
+        'more: while let Some(operator) = parser.operator(least) {
             left = self.operation(parser, operator, left)?;
         }
         Ok(left)

@@ -51,7 +51,7 @@ impl<
         let mut list = Read::none(self.alloc);
         let mut is_variadic = false;
         self.parameter(parser, &mut list)?;
-        while parser.is_at(Punctuator::Comma) && !is_variadic {
+        'more: while parser.is_at(Punctuator::Comma) && !is_variadic {
             is_variadic = self.next_parameter(parser, &mut list)?;
         }
         Ok(Parameters { list, is_variadic })

@@ -57,7 +57,7 @@ impl<
         ensures { MayTake parser.old result parser.new }
     {
         let mut operand = first;
-        while let Some(behind) = what_is_behind(parser) {
+        'more: while let Some(behind) = what_is_behind(parser) {
             operand = self.behind(parser, behind, operand)?;
         }
         Ok(operand)
@@ -121,7 +121,7 @@ impl<
             return Ok(arguments);
         }
         self.argument(parser, &mut arguments)?;
-        while parser.eat(Punctuator::Comma) {
+        'more: while parser.eat(Punctuator::Comma) {
             self.argument(parser, &mut arguments)?;
         }
         Ok(arguments)

@@ -66,7 +66,7 @@ impl<
     {
         let mut fields = Read::none(self.alloc);
         self.field(parser, &mut fields)?;
-        while !parser.is_at(Punctuator::RightBrace) {
+        'more: while !parser.is_at(Punctuator::RightBrace) {
             self.field(parser, &mut fields)?;
         }
         Ok(fields)
@@ -108,7 +108,7 @@ impl<
         let mut members = Read::none(self.alloc);
         members.height = height;
         self.field_member(parser, mode, &mut members)?;
-        while parser.is_at(Punctuator::Comma) {
+        'more: while parser.is_at(Punctuator::Comma) {
             self.next_member(parser, mode, &mut members)?;
         }
         Ok(members)

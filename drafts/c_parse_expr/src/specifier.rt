@@ -27,7 +27,7 @@ impl<
     {
         let mut read = Read::none(self.alloc);
         let mut has_type = self.specifier(parser, list, false, &mut read)?;
-        while parser.specifier(list, has_type).is_some() {
+        'more: while parser.specifier(list, has_type).is_some() {
             has_type = self.specifier(parser, list, has_type, &mut read)?;
         }
         Ok(read)

@@ -33,7 +33,7 @@ fn listed_names(alloc: Global, parser: &mut Parser<'_>) -> Result<Items<ListedNa
 {
     let mut names = Items::new(alloc);
     listed_name(alloc, parser, &mut names)?;
-    while parser.eat(Punctuator::Comma) {
+    'more: while parser.eat(Punctuator::Comma) {
         listed_name(alloc, parser, &mut names)?;
     }
     Ok(names)

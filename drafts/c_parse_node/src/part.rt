@@ -161,7 +161,7 @@ fn qualifiers(
     ensures { MayTake parser.old result parser.new }
 {
     let mut found = Items::new(alloc);
-    while let Some(next) = qualifier(parser) {
+    'more: while let Some(next) = qualifier(parser) {
         take_qualifier(parser, next, &mut found)?;
     }
     Ok(found)
@@ -187,7 +187,7 @@ pub fn pointers(alloc: Global, parser: &mut Parser<'_>) -> Result<Items<Pointer>
 {
     let mut found = Items::new(alloc);
     pointer(alloc, parser, &mut found)?;
-    while parser.is_at(Punctuator::Star) {
+    'more: while parser.is_at(Punctuator::Star) {
         pointer(alloc, parser, &mut found)?;
     }
     Ok(found)

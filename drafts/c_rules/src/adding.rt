@@ -12,7 +12,7 @@ use fsc_base::Place;
 use std::alloc::Global;
 
 /// What `+` does; with the size in bytes of what the pointer points to.
-#[derive(Clone, Copy, Debug, PartialEq, Eq)]
+#[derive(Clone, Copy)]
 pub enum Sum {
     Integers,
     Pointer(Side, u32),
@@ -20,7 +20,7 @@ pub enum Sum {
 }
 
 /// What `-` does; with the size in bytes of what the pointer points to.
-#[derive(Clone, Copy, Debug, PartialEq, Eq)]
+#[derive(Clone, Copy)]
 pub enum Difference {
     Integers,
     /// A pointer minus an integer.

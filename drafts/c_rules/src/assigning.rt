@@ -51,7 +51,7 @@ pub fn assignment(
 }
 
 /// How `op=` combines the target with the value.
-#[derive(Clone, Copy, Debug, PartialEq, Eq)]
+#[derive(Clone, Copy)]
 pub enum Combining {
     /// In their common type.
     Common(Signs),

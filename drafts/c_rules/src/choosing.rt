@@ -10,7 +10,7 @@ use std::alloc::Global;
 use type_relations::{composite, qualified};
 
 /// What type `?:` has.
-#[derive(Clone, Copy, Debug, PartialEq, Eq)]
+#[derive(Clone, Copy)]
 pub enum Choice {
     Integers,
     Voids,
@@ -137,7 +137,7 @@ fn kind_of(
 }
 
 /// The type of `?:`, and whether its second and third operands are converted to it: they are scalar.
-#[derive(Clone, Copy, Debug, PartialEq, Eq)]
+#[derive(Clone, Copy)]
 struct Chosen {
     kind: TypeId,
     is_converted: bool,

@@ -11,7 +11,7 @@ use fsc_base::{NoMemory, Place};
 use std::alloc::Global;
 
 /// How two values are compared.
-#[derive(Clone, Copy, Debug, PartialEq, Eq)]
+#[derive(Clone, Copy)]
 pub enum Comparison {
     Integers,
     /// As the pointers that they are.

@@ -9,7 +9,7 @@ use fsc_base::{NoMemory, Place};
 use std::alloc::Global;
 
 /// Why a value may be stored in an object of a type.
-#[derive(Clone, Copy, Debug, PartialEq, Eq)]
+#[derive(Clone, Copy)]
 pub enum Fit {
     /// Both are integers.
     Integers,

@@ -4,7 +4,6 @@
 
 mod adding;
 mod assigning;
-mod calling;
 mod choosing;
 mod comparing;
 mod computing;
@@ -12,23 +11,17 @@ mod fitting;
 mod operand;
 mod operating;
 mod operator;
-mod primitive;
 mod reaching;
 mod single;
 
 pub use adding::{Difference, Sum, difference_of, sum_of};
 pub use assigning::{Combining, assignment, combining_of, compound_assignment, increment, step_of};
-pub use calling::{
-    Callee, MOST_ARGUMENTS, Passing, Taking, call_of, callee_of, is_passed, is_taken, passing_of,
-    taking_of,
-};
 pub use choosing::{Choice, choice_of, conditional};
 pub use comparing::{Comparison, equality_of, relation_of};
 pub use fitting::{Fit, fit_of, fits, fitted};
 pub use operand::{Operand, Pair, Target, fitting_of, operand_of, pair_of, target_of};
 pub use operating::operation;
 pub use operator::{Group, Signs, group_of};
-pub use primitive::{Formal, call_primitive, formal_of, primitive_named, returned_by};
 pub use reaching::{
     Found, address, element_of, has_address, indirection, member, member_of, pointer_member,
     subscript,

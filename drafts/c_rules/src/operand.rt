@@ -9,7 +9,7 @@ use std::alloc::Global;
 use type_relations::compatible_in;
 
 /// What a pointer points to, qualifiers aside.
-#[derive(Clone, Copy, Debug, PartialEq, Eq)]
+#[derive(Clone, Copy, PartialEq, Eq)]
 pub enum Target {
     Void,
     Function,
@@ -20,7 +20,7 @@ pub enum Target {
 }
 
 /// What the type of a value is, qualifiers aside.
-#[derive(Clone, Copy, Debug, PartialEq, Eq)]
+#[derive(Clone, Copy, PartialEq, Eq)]
 pub enum Operand {
     Void,
     Integer,
@@ -32,7 +32,7 @@ pub enum Operand {
 }
 
 /// Two values, or a type and the value that is to be one of it.
-#[derive(Clone, Copy, Debug, PartialEq, Eq)]
+#[derive(Clone, Copy)]
 pub struct Pair {
     pub left: Operand,
     pub right: Operand,

@@ -4,14 +4,14 @@ use c_ops::Operator;
 use c_syntax::Binary;
 
 /// An operator on signed integers, and the same on unsigned ones and pointers.
-#[derive(Clone, Copy, Debug, PartialEq, Eq)]
+#[derive(Clone, Copy)]
 pub struct Signs {
     pub signed: Operator,
     pub unsigned: Operator,
 }
 
 /// Operators with the same rules.
-#[derive(Clone, Copy, Debug, PartialEq, Eq)]
+#[derive(Clone, Copy)]
 pub enum Group {
     /// `&&`.
     Both,

@@ -67,7 +67,7 @@ pub fn subscript(
 }
 
 /// A member of a struct or union, as an expression of that type has it.
-#[derive(Clone, Copy, Debug, PartialEq, Eq)]
+#[derive(Clone, Copy)]
 pub struct Found {
     pub member: Member,
     /// Its declared type.

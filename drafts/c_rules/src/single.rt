@@ -70,7 +70,7 @@ pub fn size_of_expression(
 }
 
 /// What a cast of a value does.
-#[derive(Clone, Copy, Debug, PartialEq, Eq)]
+#[derive(Clone, Copy)]
 pub enum Casting {
     ToVoid,
     Scalar,

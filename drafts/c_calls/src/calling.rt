@@ -1,9 +1,9 @@
 //! Calls (C90 6.3.2.2).
 
-use crate::fitting::fitted;
 use c_conversion::{
     Parts, Sort, Typed, call, call_record, is_complete, promoted, sort_of, unqualified,
 };
+use c_rules::fitted;
 use c_tree::TExpr;
 use c_types::{TypeId, TypeNode, TypeTable, VOID};
 use check_refusal::{CheckRefused, CheckRule, broken};
@@ -14,7 +14,7 @@ use std::alloc::Global;
 pub const MOST_ARGUMENTS: u32 = 63;
 
 /// A function that may be called.
-#[derive(Clone, Copy, Debug, PartialEq, Eq)]
+#[derive(Clone, Copy)]
 pub struct Callee {
     /// Its type.
     pub function: TypeId,
@@ -25,7 +25,7 @@ pub struct Callee {
 }
 
 /// How many arguments a function takes.
-#[derive(Clone, Copy, Debug, PartialEq, Eq)]
+#[derive(Clone, Copy)]
 pub enum Taking {
     /// Any: its parameters are not known.
     Any,
@@ -36,7 +36,7 @@ pub enum Taking {
 }
 
 /// What an argument is for.
-#[derive(Clone, Copy, Debug, PartialEq, Eq)]
+#[derive(Clone, Copy)]
 pub enum Passing {
     /// A parameter of this type.
     To(TypeId),

@@ -1,8 +1,8 @@
 //! Calls of primitives, whose names begin with `__fsc_`.
 
-use crate::fitting::fitted;
 use c_conversion::{Parts, Typed, primitive_call};
 use c_ops::Primitive;
+use c_rules::fitted;
 use c_types::{CHAR, INT, TypeId, TypeTable, UNSIGNED, VOID};
 use check_refusal::{CheckRefused, CheckRule, broken};
 use fsc_base::{Name, NoMemory, Place};
@@ -10,7 +10,7 @@ use std::alloc::Global;
 use type_relations::qualified;
 
 /// The types in the prototypes of primitives.
-#[derive(Clone, Copy, Debug, PartialEq, Eq)]
+#[derive(Clone, Copy)]
 pub enum Formal {
     Void,
     Int,
