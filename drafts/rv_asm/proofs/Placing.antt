@@ -1,11 +1,10 @@
 -- Where labels stand in code that grows.
-use Rattle.std.proofs.Common.{◌≡◌, ℕ, ◌+◌, ◌<◌, ◌==◌, Bool, true, false, cond, List, [], ◌∷◌, ◌++◌, length, Option, Some, None, refl, sym, ap, ◌∙◌, arith, add-zero}
-use Rattle.std.proofs.lemmas.List.{get_or_append_left, get_or-append_right, get_or-set_same, get_or-set_other}
+use Rattle.std.proofs.Common.{◌≡◌, ℕ, zero, suc, ◌+◌, ◌<◌, ◌==◌, Bool, true, false, cond, List, [], ◌∷◌, ◌++◌, length, Option, Some, None, refl, sym, ap, ◌∙◌, arith}
 use Rattle.std.proofs.Math.ListN.{set}
 use Rattle.rv_asm.specs.declared.item.Item.{Item}
 use Rattle.rv_asm.specs.declared.item.Item.TheVariants.{Line, Bind, Leap}
 use Rattle.rv_asm.specs.Items.{size_of, size_in, place_from, place_of, TakesRoom}
-use Rattle.rv_asm.specs.Places.{place_in}
+use Rattle.rv_asm.specs.Places.{place_in, IsUnbound}
 
 pub size_in-append : (xs ys : List Item) → size_in (xs ++ ys) ≡ size_in xs + size_in ys
 size_in-append [] ys = omega arith
@@ -56,3 +55,42 @@ place_of_room items item label h =
 pub place_of_bind : (items : List Item) (bound label : ℕ)
     → place_of (items ++ Bind bound ∷ []) label ≡ first_of_two (place_of items label) (cond (bound == label) (Some (0 + size_in items)) None)
 place_of_bind items bound label = place_from-append 0 items (Bind bound ∷ []) label
+
+-- ---- the table of places
+
+pub place_in-set : (places : List (Option ℕ)) (label k at : ℕ) → label < length places
+    → place_in (set places label (Some at)) k ≡ cond (label == k) (Some at) (place_in places k)
+place_in-set [] label k at h = absurd (omega arith)
+place_in-set (place ∷ places) zero zero at h = refl
+place_in-set (place ∷ places) zero (suc k) at h = refl
+place_in-set (place ∷ places) (suc label) zero at h = refl
+place_in-set (place ∷ places) (suc label) (suc k) at h = place_in-set places label k at (omega arith)
+
+pub place_in-add : (places : List (Option ℕ)) (k : ℕ) → place_in (places ++ None ∷ []) k ≡ place_in places k
+place_in-add [] zero = refl
+place_in-add [] (suc k) = refl
+place_in-add (place ∷ places) zero = refl
+place_in-add (place ∷ places) (suc k) = place_in-add places k
+
+-- a label that is not bound, once it is bound behind the items
+bound_here : (b : Bool) (at : ℕ) (place : Option ℕ) → (b ≡ true → place ≡ None) → cond b (Some at) place ≡ first_of_two place (cond b (Some at) None)
+bound_here true at place h = rw (h refl) refl
+bound_here false at place h = sym (first_of_none place)
+
+equal_place : (places : List (Option ℕ)) (label k : ℕ) → place_in places label ≡ None → (label == k) ≡ true → place_in places k ≡ None
+equal_place [] label zero h e = refl
+equal_place [] label (suc k) h e = refl
+equal_place (place ∷ places) zero zero h e = h
+equal_place (place ∷ places) zero (suc k) h e = absurd cc
+equal_place (place ∷ places) (suc label) zero h e = absurd cc
+equal_place (place ∷ places) (suc label) (suc k) h e = equal_place places label k h e
+
+pub bound_behind : (places : List (Option ℕ)) (items : List Item) (label k size : ℕ) → size ≡ size_in items → IsUnbound places label
+    → place_in places k ≡ place_of items k → place_in (set places label (Some size)) k ≡ place_of (items ++ Bind label ∷ []) k
+bound_behind places items label k size s unbound h =
+    let all : size ≡ 0 + size_in items = omega arith in
+    place_in-set places label k size unbound.0
+    ∙ bound_here (label == k) size (place_in places k) (λ e. equal_place places label k unbound.1 e)
+    ∙ ap (λ (place : Option ℕ). first_of_two place (cond (label == k) (Some size) None)) h
+    ∙ ap (λ (n : ℕ). first_of_two (place_of items k) (cond (label == k) (Some n) None)) all
+    ∙ sym (place_of_bind items label k)

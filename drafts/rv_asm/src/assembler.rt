@@ -81,7 +81,7 @@ impl Assembler {
     pub fn emit_all(&mut self, insts: &[Inst]) -> Result<(), AsmNo>
         ensures { OnOk result (self.new ≡ record self.old { items = self.old.items ++ map Line insts.now }) }
     {
-        for inst in insts {
+        'insts: for inst in insts {
             self.emit(*inst)?;
         }
         Ok(())

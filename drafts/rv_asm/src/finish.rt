@@ -67,7 +67,7 @@ fn add_items(bytes: &mut Vec<u8>, places: &Places, items: &[Item]) -> Result<(),
     ensures { OnOk result (AddsItems bytes.old.items bytes.new.items (place_in places.now) 0 items.now) }
 {
     let mut at = 0;
-    for item in items {
+    'items: for item in items {
         add_item(bytes, places, at, *item)?;
         at += item.size();
     }

@@ -26,7 +26,7 @@ pub fn class_of(size: u32) -> Option<u32> {
 fn byte_at(heap: &Heap, at: Word, moved: u32) -> Result<u32, AsmNo> {
     match heap.read(at, Width::One) {
         Err(_) => Err(AsmNo::Misfit),
-        Ok(byte) => Ok(byte.value.wrapping_shl(8 * moved)),
+        Ok(byte) => Ok(byte.value.wrapping_shl(moved.wrapping_mul(8))),
     }
 }
 

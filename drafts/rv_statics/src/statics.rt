@@ -85,6 +85,11 @@ impl Blocks<'_> {
     }
 }
 
+/// The number of the block that has so many others before it.
+fn number_behind(index: usize) -> Option<u32> {
+    u32::try_from(index).ok()?.checked_add(1)
+}
+
 impl Statics {
     /// The blocks with these contents, whose cells go downward from the end of the region. Refused with `Misfit` where a number names
     /// nothing, or there is no address left.
@@ -101,7 +106,7 @@ impl Statics {
 
     /// Adds the block that has so many others before it.
     fn add(&mut self, blocks: Blocks, index: usize, content: Content) -> Result<(), AsmNo> {
-        let Some(number) = u32::try_from(index).ok().and_then(|n| n.checked_add(1)) else {
+        let Some(number) = number_behind(index) else {
             return Err(AsmNo::Misfit);
         };
         let Some(block) = blocks.block(number, content, self.bottom) else {

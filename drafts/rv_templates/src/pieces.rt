@@ -90,7 +90,7 @@ pub(crate) fn extended(bits: i32, is_signed: bool) -> [Inst; 2] {
     }
 }
 
-/// A register becomes a small number, at most 11 bits with its sign.
+/// A register becomes a number from -2048 to 2047.
 pub(crate) fn small(rd: Reg, imm: i32) -> Inst {
     Inst::Addi {
         rd,

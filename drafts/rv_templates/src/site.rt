@@ -1,5 +1,7 @@
 //! Functions, as their code sees them.
 
+ghost use Rattle.std.specs.Prelude.{pos, negsuc, ◌≤ℤ◌};
+
 use rv_runtime::Entries;
 
 /// Where the words of an activation stand from S0 on: behind the return address and the first block, first the slots, then the pending
@@ -28,37 +30,43 @@ impl Frame {
         8 + 8 * i32::from(slot) - 2048
     }
 
-    /// The place of the value of the pending word with this index, in bytes from S0; its block stands 4 bytes behind. -1 is a place
-    /// too, whose contents mean nothing.
-    fn pending(self, index: i16) -> i32 {
-        16 + 8 * i32::from(self.slots) + 8 * i32::from(index) - 2048
+    /// How far the value of the pending word with this index stands behind the frame's start, in bytes; its block stands 4 bytes
+    /// behind it. -1 is an index too, whose word means nothing.
+    fn pending(self, index: i16) -> i32
+        ensures low { negsuc 299999 ≤ℤ result }
+        ensures high { result ≤ℤ pos 300000 }
+    {
+        16 + 8 * i32::from(self.slots) + 8 * i32::from(index)
     }
 
-    /// The place of the last pending word where there are so many.
+    /// The place of the last pending word where there are so many, in bytes from S0, as are the next two.
     pub fn top(self, height: u8) -> i32 {
-        self.pending(i16::from(height) - 1)
+        self.pending(i16::from(height) - 1) - 2048
     }
 
     /// The place of the word below the last one.
     pub fn second(self, height: u8) -> i32 {
-        self.pending(i16::from(height) - 2)
+        self.pending(i16::from(height) - 2) - 2048
     }
 
     /// The place of the word below these two.
     pub fn third(self, height: u8) -> i32 {
-        self.pending(i16::from(height) - 3)
+        self.pending(i16::from(height) - 3) - 2048
     }
 
     /// How far the frame of a called function begins behind this one, in bytes: at the called word, which has so many pending words
     /// below it.
     pub fn callee(self, below: u8) -> i32 {
-        self.pending(i16::from(below)) + 2048
+        self.pending(i16::from(below))
     }
 }
 
 impl Site {
     /// How many blocks the activation has in front of its entry blocks.
-    pub fn extra_blocks(&self) -> i32 {
+    pub fn extra_blocks(&self) -> i32
+        ensures low { pos 0 ≤ℤ result }
+        ensures high { result ≤ℤ pos 1 }
+    {
         i32::from(self.is_variadic)
     }
 }
