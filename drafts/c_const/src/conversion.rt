@@ -39,7 +39,7 @@ fn target_in(node: &TypeNode) -> Target
 }
 
 /// A type's node, and that of the type that it qualifies where it is qualified.
-#[tactic(auto, using(c_types::proofs::Qualifying::unqualified_bare))]
+#[tactic(auto, using(crate::proofs::Bare::bare_once))]
 pub(crate) fn bare_node(types: &TypeTable, id: TypeId) -> &TypeNode
     ensures { result.now ≡ node_of types.now id }
 {

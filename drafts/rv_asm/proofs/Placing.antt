@@ -1,6 +1,9 @@
 -- Where labels stand in code that grows.
-use Rattle.std.proofs.Common.{◌≡◌, ℕ, zero, suc, ◌+◌, ◌<◌, ◌==◌, Bool, true, false, cond, List, [], ◌∷◌, ◌++◌, length, Option, Some, None, refl, sym, ap, ◌∙◌, arith}
+use Rattle.std.proofs.Common.{◌≡◌, ℕ, zero, suc, ◌+◌, ◌<◌, ◌⊎◌, inl, inr, eqb, Bool, true, false, cond, List, [], ◌∷◌, ◌++◌, length, Option, Some, None, refl, sym, ap, ◌∙◌, arith}
 use Rattle.std.proofs.Math.ListN.{set}
+use Rattle.std.proofs.lemmas.List.{get_or-set_other}
+use Rattle.std.proofs.lemmas.Grind.{get_or-set_at}
+use Rattle.std.proofs.lemmas.Bool.Decides.{eqb_tells}
 use Rattle.rv_asm.specs.declared.item.Item.{Item}
 use Rattle.rv_asm.specs.declared.item.Item.TheVariants.{Line, Bind, Leap}
 use Rattle.rv_asm.specs.Items.{size_of, size_in, place_from, place_of, TakesRoom}
@@ -33,12 +36,12 @@ place_from-append at (Leap to link ∷ xs) ys label =
     place_from-append (at + 8) xs ys label
     ∙ ap (λ (n : ℕ). first_of_two (place_from (at + 8) xs label) (place_from n ys label)) (let e : at + 8 + size_in xs ≡ at + (8 + size_in xs) = omega arith in e)
 place_from-append at (Bind bound ∷ xs) ys label =
-    ap (λ (place : Option ℕ). cond (bound == label) (Some at) place)
+    ap (λ (place : Option ℕ). cond (eqb bound label) (Some at) place)
     (
     place_from-append at xs ys label
     ∙ ap (λ (n : ℕ). first_of_two (place_from at xs label) (place_from n ys label)) (let e : at + size_in xs ≡ at + (0 + size_in xs) = omega arith in e)
     )
-    ∙ first_of_cond (bound == label) at (place_from at xs label) (place_from (at + (0 + size_in xs)) ys label)
+    ∙ first_of_cond (eqb bound label) at (place_from at xs label) (place_from (at + (0 + size_in xs)) ys label)
 
 -- an item that takes room binds nothing
 room_alone : (at : ℕ) (item : Item) (label : ℕ) → TakesRoom item → place_from at (item ∷ []) label ≡ None
@@ -53,18 +56,10 @@ place_of_room items item label h =
     ∙ first_of_none (place_of items label)
 
 pub place_of_bind : (items : List Item) (bound label : ℕ)
-    → place_of (items ++ Bind bound ∷ []) label ≡ first_of_two (place_of items label) (cond (bound == label) (Some (0 + size_in items)) None)
+    → place_of (items ++ Bind bound ∷ []) label ≡ first_of_two (place_of items label) (cond (eqb bound label) (Some (0 + size_in items)) None)
 place_of_bind items bound label = place_from-append 0 items (Bind bound ∷ []) label
 
 -- ---- the table of places
-
-pub place_in-set : (places : List (Option ℕ)) (label k at : ℕ) → label < length places
-    → place_in (set places label (Some at)) k ≡ cond (label == k) (Some at) (place_in places k)
-place_in-set [] label k at h = absurd (omega arith)
-place_in-set (place ∷ places) zero zero at h = refl
-place_in-set (place ∷ places) zero (suc k) at h = refl
-place_in-set (place ∷ places) (suc label) zero at h = refl
-place_in-set (place ∷ places) (suc label) (suc k) at h = place_in-set places label k at (omega arith)
 
 pub place_in-add : (places : List (Option ℕ)) (k : ℕ) → place_in (places ++ None ∷ []) k ≡ place_in places k
 place_in-add [] zero = refl
@@ -73,24 +68,24 @@ place_in-add (place ∷ places) zero = refl
 place_in-add (place ∷ places) (suc k) = place_in-add places k
 
 -- a label that is not bound, once it is bound behind the items
-bound_here : (b : Bool) (at : ℕ) (place : Option ℕ) → (b ≡ true → place ≡ None) → cond b (Some at) place ≡ first_of_two place (cond b (Some at) None)
-bound_here true at place h = rw (h refl) refl
-bound_here false at place h = sym (first_of_none place)
-
-equal_place : (places : List (Option ℕ)) (label k : ℕ) → place_in places label ≡ None → (label == k) ≡ true → place_in places k ≡ None
-equal_place [] label zero h e = refl
-equal_place [] label (suc k) h e = refl
-equal_place (place ∷ places) zero zero h e = h
-equal_place (place ∷ places) zero (suc k) h e = absurd cc
-equal_place (place ∷ places) (suc label) zero h e = absurd cc
-equal_place (place ∷ places) (suc label) (suc k) h e = equal_place places label k h e
-
 pub bound_behind : (places : List (Option ℕ)) (items : List Item) (label k size : ℕ) → size ≡ size_in items → IsUnbound places label
     → place_in places k ≡ place_of items k → place_in (set places label (Some size)) k ≡ place_of (items ++ Bind label ∷ []) k
 bound_behind places items label k size s unbound h =
+    let end = 0 + size_in items in
     let all : size ≡ 0 + size_in items = omega arith in
-    place_in-set places label k size unbound.0
-    ∙ bound_here (label == k) size (place_in places k) (λ e. equal_place places label k unbound.1 e)
-    ∙ ap (λ (place : Option ℕ). first_of_two place (cond (label == k) (Some size) None)) h
-    ∙ ap (λ (n : ℕ). first_of_two (place_of items k) (cond (label == k) (Some n) None)) all
-    ∙ sym (place_of_bind items label k)
+    elim (eqb_tells label k) [
+      | inl same ↦
+          let none : place_of items k ≡ None = sym h ∙ (ap (λ (n : ℕ). place_in places n) (sym same.1) ∙ unbound.1) in
+          let whole : place_of (items ++ Bind label ∷ []) k ≡ Some size =
+          place_of_bind items label k
+          ∙ (
+          ap (λ (b : Bool). first_of_two (place_of items k) (cond b (Some end) None)) same.0
+          ∙ (ap (λ (place : Option ℕ). first_of_two place (Some end)) none ∙ ap (λ (n : ℕ). let place : Option ℕ = Some n in place) (sym all))
+          ) in
+          get_or-set_at places label k (Some size) None (sym same.1) unbound.0 ∙ sym whole
+      | inr other ↦
+          let whole : place_of (items ++ Bind label ∷ []) k ≡ place_of items k =
+          place_of_bind items label k
+          ∙ (ap (λ (b : Bool). first_of_two (place_of items k) (cond b (Some end) None)) other.0 ∙ first_of_none (place_of items k)) in
+          get_or-set_other places label k (Some size) None (λ e. other.1 (sym e)) ∙ (h ∙ sym whole)
+    ]

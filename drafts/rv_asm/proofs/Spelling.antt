@@ -57,7 +57,7 @@ item_then old mid new places at i items item below e h more =
     ap (λ (n : ℕ). take n items) (let s : i + 1 ≡ suc i = omega arith in s) ∙ take-suc items i item below in
     subst P (sym taken) (items_then old mid new places 0 at (take i items) (get_or items i item ∷ []) (omega arith) h more)
 
-pub size_in-take : (items : List Item) (i : ℕ) (item : Item) → i < length items → size_in (take (i + 1) items) ≡ size_in (take i items) + size_of (get_or items i item)
+pub size_in-take : (items : List Item) (i : ℕ) (item : Item) → i < length items → size_in (take (suc i) items) ≡ size_in (take i items) + size_of (get_or items i item)
 size_in-take [] i item h = absurd (omega arith)
 size_in-take (x ∷ xs) zero item h = omega arith
 size_in-take (x ∷ xs) (suc i) item h = omega (arith, size_in-take xs i item (omega arith))

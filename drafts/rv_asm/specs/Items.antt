@@ -1,5 +1,5 @@
 -- Code as a list of items, and the instructions that it comes to.
-use Rattle.std.specs.Prelude.{ℕ, ◌+◌, ◌<◌, ◌==◌, cond, List, [], ◌∷◌, Option, Some, None}
+use Rattle.std.specs.Prelude.{ℕ, ◌+◌, ◌<◌, eqb, cond, List, [], ◌∷◌, Option, Some, None}
 use Rattle.rv_isa.specs.declared.inst.Inst.{Inst}
 use Rattle.rv_asm.specs.declared.item.Item.{Item}
 use Rattle.rv_asm.specs.declared.item.Item.TheVariants.{Line, Bind, Leap}
@@ -24,7 +24,7 @@ size_in (item ∷ items) = size_of item + size_in items
 abbrev pub place_from : ℕ → List Item → ℕ → Option ℕ
 place_from at [] label = None
 place_from at (Line inst ∷ items) label = place_from (at + 4) items label
-place_from at (Bind bound ∷ items) label = cond (bound == label) (Some at) (place_from at items label)
+place_from at (Bind bound ∷ items) label = cond (eqb bound label) (Some at) (place_from at items label)
 place_from at (Leap to link ∷ items) label = place_from (at + 8) items label
 
 -- how many bytes stand before a label

@@ -1,6 +1,6 @@
 //! The assembler.
 
-ghost use Rattle.std.specs.Prelude.{◌≡◌, ◌+◌, ◌++◌, ◌∷◌, ◌%◌, [], map, OnOk, OnErr};
+ghost use Rattle.std.specs.Prelude.{◌≡◌, ◌+◌, ◌++◌, ◌∷◌, ◌%◌, [], map, IfOk, OnOk, OnErr};
 ghost use Rattle.rv_asm.specs.Items.{size_in, TakesRoom};
 ghost use Rattle.rv_asm.specs.declared.item.Item.TheVariants.{Line, Bind, Leap};
 
@@ -9,6 +9,7 @@ use crate::label::Label;
 use crate::no::AsmNo;
 use crate::place::Places;
 use rv_isa::{Inst, Reg};
+use sqlite_items::Items;
 use std::alloc::Global;
 use std::marker::Model;
 
@@ -20,7 +21,7 @@ pub struct Assembler {
     address: u32,
     /// How many bytes the items take.
     pub(crate) size: u32,
-    pub(crate) items: Vec<Item>,
+    pub(crate) items: Items<Item>,
     pub(crate) places: Places,
 }
 
@@ -31,9 +32,9 @@ impl Model for Assembler {
 
     ghost Value = { Assembly };
 
-    ghost view = { λ a. record { address = a.address; items = a.items.items; labels = length a.places } };
+    ghost view = { λ a. record { address = a.address; items = a.items; labels = length a.places } };
 
-    ghost invariant = { λ a. (a.size ≡ size_in a.items.items) × (a.address + a.size < 2 ^ 32) × (a.address % 4 ≡ 0) × ((label : ℕ) → place_in a.places label ≡ place_of a.items.items label) };
+    ghost invariant = { λ a. (a.size ≡ size_in a.items) × (a.address + a.size < 2 ^ 32) × (a.address % 4 ≡ 0) × ((label : ℕ) → place_in a.places label ≡ place_of a.items label) };
 }
 
 impl Assembler {
@@ -46,7 +47,7 @@ impl Assembler {
             alloc,
             address,
             size: 0,
-            items: Vec::new(alloc),
+            items: Items::new(alloc),
             places: Places::new(alloc),
         }
     }
@@ -90,7 +91,7 @@ impl Assembler {
     /// A new label, which is not bound. Refused with `Misfit` where there are 2^32 - 1 labels, and for want of memory.
     pub fn label(&mut self) -> Result<Label, AsmNo>
         ensures made { OnOk result (self.new ≡ record self.old { labels = self.old.labels + 1 }) }
-        ensures number { OnOk result (result ≡ self.old.labels) }
+        ensures number { IfOk result (λ label. label ≡ self.old.labels) }
         ensures refused { OnErr result (self.new ≡ self.old) }
     {
         let number = u32::try_from(self.places.len()).map_err(|_| AsmNo::Misfit)?;
