@@ -5,7 +5,10 @@ ghost use Rattle.c_tree.specs.Constants.{constant_of, known_of};
 ghost use Rattle.c_const.specs.Told.{told_of};
 
 use crate::conversion::converted;
-use crate::row::{both, chosen, combined, either, element, is_set, lowered, place, raised, turned};
+use crate::row::{
+    both, chosen, combined, either, element, live_on_set, live_on_zero, lowered, place, raised,
+    turned,
+};
 use crate::value::Value;
 use c_tree::{Form, Known, Side, TExpr};
 use c_types::TypeTable;
@@ -37,16 +40,16 @@ pub(crate) fn value_of(types: &TypeTable, e: &TExpr, is_live: bool) -> Option<Va
         ),
         Form::Both(a, b) => {
             let left = value_of(types, a.get(), is_live);
-            both(left, value_of(types, b.get(), is_live && is_set(left)))
+            both(left, value_of(types, b.get(), live_on_set(is_live, left)))
         }
         Form::Either(a, b) => {
             let left = value_of(types, a.get(), is_live);
-            either(left, value_of(types, b.get(), is_live && !is_set(left)))
+            either(left, value_of(types, b.get(), live_on_zero(is_live, left)))
         }
         Form::Choose(test, a, b) => {
             let test = value_of(types, test.get(), is_live);
-            let left = value_of(types, a.get(), is_live && is_set(test));
-            let right = value_of(types, b.get(), is_live && !is_set(test));
+            let left = value_of(types, a.get(), live_on_set(is_live, test));
+            let right = value_of(types, b.get(), live_on_zero(is_live, test));
             chosen(test, left, right)
         }
         Form::PointerAdd {

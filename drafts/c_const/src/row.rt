@@ -20,12 +20,22 @@ fn number_of(value: Option<Value>) -> Option<u32>
     }
 }
 
-/// Whether it is a number other than 0.
-pub(crate) fn is_set(value: Option<Value>) -> bool
-    ensures { (n : ℕ) → numbered (told_of value) ≡ Some n → result ≡ is_set_number n }
+/// Whether what is evaluated where a number is not 0 is evaluated.
+pub(crate) fn live_on_set(is_live: bool, value: Option<Value>) -> bool
+    ensures { (n : ℕ) → numbered (told_of value) ≡ Some n → result ≡ (is_live && is_set_number n) }
 {
     match number_of(value) {
-        Some(number) => number != 0,
+        Some(number) => is_live && number != 0,
+        None => false,
+    }
+}
+
+/// Whether what is evaluated where a number is 0 is evaluated.
+pub(crate) fn live_on_zero(is_live: bool, value: Option<Value>) -> bool
+    ensures { (n : ℕ) → numbered (told_of value) ≡ Some n → result ≡ (is_live && not (is_set_number n)) }
+{
+    match number_of(value) {
+        Some(number) => is_live && number == 0,
         None => false,
     }
 }

@@ -2,10 +2,10 @@
 //! fat code, no machine and no layouts.
 #![tactic(auto)]
 
-mod join;
+mod joining;
 mod program;
 mod run;
 
-pub use join::{JoinNo, join};
+pub use joining::{JoinNo, join};
 pub use program::Program;
 pub use run::{Meant, run_mean};

@@ -8,8 +8,8 @@ mod call;
 mod control;
 mod initialiser;
 mod primitive;
-mod step;
+mod stepping;
 mod value;
 
 pub use primitive::taken;
-pub use step::step;
+pub use stepping::step;

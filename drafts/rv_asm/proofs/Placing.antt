@@ -9,9 +9,9 @@ use Rattle.rv_asm.specs.declared.item.Item.TheVariants.{Line, Bind, Leap}
 use Rattle.rv_asm.specs.Items.{size_of, size_in, place_from, place_of, TakesRoom}
 use Rattle.rv_asm.specs.Places.{place_in, IsUnbound}
 
-pub size_in-append : (xs ys : List Item) → size_in (xs ++ ys) ≡ size_in xs + size_in ys
-size_in-append [] ys = omega arith
-size_in-append (x ∷ xs) ys = omega (arith, size_in-append xs ys)
+pub size_in_append : (xs ys : List Item) → size_in (xs ++ ys) ≡ size_in xs + size_in ys
+size_in_append [] ys = omega arith
+size_in_append (x ∷ xs) ys = omega (arith, size_in_append xs ys)
 
 -- the first of two places
 abbrev pub first_of_two : Option ℕ → Option ℕ → Option ℕ
@@ -29,7 +29,7 @@ first_of_none (Some at) = refl
 pub place_from-append : (at : ℕ) (xs ys : List Item) (label : ℕ)
     → place_from at (xs ++ ys) label ≡ first_of_two (place_from at xs label) (place_from (at + size_in xs) ys label)
 place_from-append at [] ys label = ap (λ (n : ℕ). place_from n ys label) (let e : at ≡ at + 0 = omega arith in e)
-place_from-append at (Line inst ∷ xs) ys label =
+place_from-append at (Line word ∷ xs) ys label =
     place_from-append (at + 4) xs ys label
     ∙ ap (λ (n : ℕ). first_of_two (place_from (at + 4) xs label) (place_from n ys label)) (let e : at + 4 + size_in xs ≡ at + (4 + size_in xs) = omega arith in e)
 place_from-append at (Leap to link ∷ xs) ys label =
@@ -45,7 +45,7 @@ place_from-append at (Bind bound ∷ xs) ys label =
 
 -- an item that takes room binds nothing
 room_alone : (at : ℕ) (item : Item) (label : ℕ) → TakesRoom item → place_from at (item ∷ []) label ≡ None
-room_alone at (Line inst) label h = refl
+room_alone at (Line word) label h = refl
 room_alone at (Leap to link) label h = refl
 room_alone at (Bind bound) label h = absurd (omega arith)
 
@@ -61,11 +61,11 @@ place_of_bind items bound label = place_from-append 0 items (Bind bound ∷ []) 
 
 -- ---- the table of places
 
-pub place_in-add : (places : List (Option ℕ)) (k : ℕ) → place_in (places ++ None ∷ []) k ≡ place_in places k
-place_in-add [] zero = refl
-place_in-add [] (suc k) = refl
-place_in-add (place ∷ places) zero = refl
-place_in-add (place ∷ places) (suc k) = place_in-add places k
+pub place_in_add : (places : List (Option ℕ)) (k : ℕ) → place_in (places ++ None ∷ []) k ≡ place_in places k
+place_in_add [] zero = refl
+place_in_add [] (suc k) = refl
+place_in_add (place ∷ places) zero = refl
+place_in_add (place ∷ places) (suc k) = place_in_add places k
 
 -- a label that is not bound, once it is bound behind the items
 pub bound_behind : (places : List (Option ℕ)) (items : List Item) (label k size : ℕ) → size ≡ size_in items → IsUnbound places label

@@ -2,49 +2,46 @@
 use Rattle.std.proofs.Common.{◌≡◌, ℕ, zero, suc, ◌+◌, ◌<◌, ◌≤◌, List, [], ◌∷◌, ◌++◌, length, take, get_or, Option, IsSome, refl, sym, ap, subst, ◌∙◌, arith}
 use Rattle.std.proofs.Math.Seq.{take-suc}
 use Rattle.std.proofs.lemmas.List.{append_assoc}
-use Rattle.rv_isa.specs.declared.inst.Inst.{Inst}
-use Rattle.rv_isa.specs.Spelling.{spelled}
-use Rattle.rv_isa.proofs.Spelled.{spelled-append, spelled_all}
+use Rattle.std.specs.Int.{w32, to_le_bytes}
+use Rattle.std.proofs.lemmas.Grind.{flat_map-append}
 use Rattle.rv_asm.specs.declared.item.Item.{Item}
 use Rattle.rv_asm.specs.declared.item.Item.TheVariants.{Line, Bind, Leap}
 use Rattle.rv_asm.specs.Items.{size_of, size_in}
-use Rattle.rv_asm.specs.Code.{leap_to, code_at, code_from, IsBound, AreBound, Adds, AddsItems}
+use Rattle.rv_asm.specs.Code.{leap_to, words_at, words_from, IsBound, AreBound, Adds, AddsItems, bytes_of_words}
 
 -- ---- items behind items
 
-pub code_from-append : (places : ℕ → Option ℕ) (at : ℕ) (xs ys : List Item)
-    → code_from places at (xs ++ ys) ≡ code_from places at xs ++ code_from places (at + size_in xs) ys
-code_from-append places at [] ys = ap (λ (n : ℕ). code_from places n ys) (let e : at ≡ at + 0 = omega arith in e)
-code_from-append places at (x ∷ xs) ys =
-    ap (λ (rest : List Inst). code_at places at x ++ rest)
+pub words_from-append : (places : ℕ → Option ℕ) (at : ℕ) (xs ys : List Item)
+    → words_from places at (xs ++ ys) ≡ words_from places at xs ++ words_from places (at + size_in xs) ys
+words_from-append places at [] ys = ap (λ (n : ℕ). words_from places n ys) (let e : at ≡ at + 0 = omega arith in e)
+words_from-append places at (x ∷ xs) ys =
+    ap (λ (rest : List ℕ). words_at places at x ++ rest)
     (
-    code_from-append places (at + size_of x) xs ys
-    ∙ ap (λ (n : ℕ). code_from places (at + size_of x) xs ++ code_from places n ys)
+    words_from-append places (at + size_of x) xs ys
+    ∙ ap (λ (n : ℕ). words_from places (at + size_of x) xs ++ words_from places n ys)
     (let e : at + size_of x + size_in xs ≡ at + (size_of x + size_in xs) = omega arith in e)
     )
-    ∙ sym (append_assoc (code_at places at x) (code_from places (at + size_of x) xs) (code_from places (at + (size_of x + size_in xs)) ys))
+    ∙ sym (append_assoc (words_at places at x) (words_from places (at + size_of x) xs) (words_from places (at + (size_of x + size_in xs)) ys))
 
 pub bound_all : (places : ℕ → Option ℕ) (xs ys : List Item) → AreBound places xs → AreBound places ys → AreBound places (xs ++ ys)
 bound_all places [] ys h more = more
 bound_all places (x ∷ xs) ys h more = (h.0, bound_all places xs ys h.1 more)
 
-pub adds_then : (old mid new : List ℕ) (front back : List Inst) → Adds old mid front → Adds mid new back → Adds old new (front ++ back)
-adds_then old mid new front back h more = (
-  spelled_all front back h.0 more.0,
-  more.1
-      ∙ ap (λ (bytes : List ℕ). bytes ++ spelled back) h.1
-      ∙ append_assoc old (spelled front) (spelled back)
-      ∙ ap (λ (bytes : List ℕ). old ++ bytes) (sym (spelled-append front back)),
-)
+pub adds_then : (old mid new : List ℕ) (front back : List ℕ) → Adds old mid front → Adds mid new back → Adds old new (front ++ back)
+adds_then old mid new front back h more =
+    more
+    ∙ ap (λ (bytes : List ℕ). bytes ++ bytes_of_words back) h
+    ∙ append_assoc old (bytes_of_words front) (bytes_of_words back)
+    ∙ ap (λ (bytes : List ℕ). old ++ bytes) (sym (flat_map-append (to_le_bytes w32) front back))
 
 pub items_then : (old mid new : List ℕ) (places : ℕ → Option ℕ) (at next : ℕ) (xs ys : List Item) → next ≡ at + size_in xs
     → AddsItems old mid places at xs → AddsItems mid new places next ys → AddsItems old new places at (xs ++ ys)
 items_then old mid new places at next xs ys e h more =
-    let P : List Inst → Type 0 = λ code. Adds old new code in (
+    let P : List ℕ → Type 0 = λ code. Adds old new code in (
       bound_all places xs ys h.0 more.0,
       subst P
-          (ap (λ (n : ℕ). code_from places at xs ++ code_from places n ys) e ∙ sym (code_from-append places at xs ys))
-          (adds_then old mid new (code_from places at xs) (code_from places next ys) h.1 more.1),
+          (ap (λ (n : ℕ). words_from places at xs ++ words_from places n ys) e ∙ sym (words_from-append places at xs ys))
+          (adds_then old mid new (words_from places at xs) (words_from places next ys) h.1 more.1),
     )
 
 -- one more item of a list
@@ -70,19 +67,19 @@ size_in-take_le (x ∷ xs) (suc i) = omega (arith, size_in-take_le xs i)
 
 -- ---- the same places by another table
 
-code_at-same : (f g : ℕ → Option ℕ) → ((label : ℕ) → f label ≡ g label) → (at : ℕ) (item : Item) → code_at f at item ≡ code_at g at item
-code_at-same f g h at (Line inst) = refl
-code_at-same f g h at (Bind label) = refl
-code_at-same f g h at (Leap label link) = ap (λ (place : Option ℕ). leap_to place at link) (h label)
+words_at-same : (f g : ℕ → Option ℕ) → ((label : ℕ) → f label ≡ g label) → (at : ℕ) (item : Item) → words_at f at item ≡ words_at g at item
+words_at-same f g h at (Line word) = refl
+words_at-same f g h at (Bind label) = refl
+words_at-same f g h at (Leap label link) = ap (λ (place : Option ℕ). leap_to place at link) (h label)
 
-pub code_from-same : (f g : ℕ → Option ℕ) → ((label : ℕ) → f label ≡ g label) → (at : ℕ) (items : List Item) → code_from f at items ≡ code_from g at items
-code_from-same f g h at [] = refl
-code_from-same f g h at (x ∷ xs) =
-    ap (λ (code : List Inst). code ++ code_from f (at + size_of x) xs) (code_at-same f g h at x)
-    ∙ ap (λ (code : List Inst). code_at g at x ++ code) (code_from-same f g h (at + size_of x) xs)
+pub words_from-same : (f g : ℕ → Option ℕ) → ((label : ℕ) → f label ≡ g label) → (at : ℕ) (items : List Item) → words_from f at items ≡ words_from g at items
+words_from-same f g h at [] = refl
+words_from-same f g h at (x ∷ xs) =
+    ap (λ (code : List ℕ). code ++ words_from f (at + size_of x) xs) (words_at-same f g h at x)
+    ∙ ap (λ (code : List ℕ). words_at g at x ++ code) (words_from-same f g h (at + size_of x) xs)
 
 bound-same : (f g : ℕ → Option ℕ) → ((label : ℕ) → f label ≡ g label) → (item : Item) → IsBound f item → IsBound g item
-bound-same f g h (Line inst) b = b
+bound-same f g h (Line word) b = b
 bound-same f g h (Bind label) b = b
 bound-same f g h (Leap label link) b = let P : Option ℕ → Type 0 = λ place. IsSome place in subst P (h label) b
 
@@ -93,5 +90,5 @@ all_bound-same f g h (x ∷ xs) b = (bound-same f g h x b.0, all_bound-same f g 
 pub adds_items-same : (f g : ℕ → Option ℕ) (old new : List ℕ) (at : ℕ) (items : List Item) → ((label : ℕ) → f label ≡ g label)
     → AddsItems old new f at items → AddsItems old new g at items
 adds_items-same f g old new at items h adds =
-    let P : List Inst → Type 0 = λ code. Adds old new code in
-    (all_bound-same f g h items adds.0, subst P (code_from-same f g h at items) adds.1)
+    let P : List ℕ → Type 0 = λ code. Adds old new code in
+    (all_bound-same f g h items adds.0, subst P (words_from-same f g h at items) adds.1)

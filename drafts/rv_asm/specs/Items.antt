@@ -1,6 +1,7 @@
 -- Code as a list of items, and the instructions that it comes to.
 use Rattle.std.specs.Prelude.{ℕ, ◌+◌, ◌<◌, eqb, cond, List, [], ◌∷◌, Option, Some, None}
 use Rattle.rv_isa.specs.declared.inst.Inst.{Inst}
+use Rattle.rv_isa.specs.Encoding.{encoding}
 use Rattle.rv_asm.specs.declared.item.Item.{Item}
 use Rattle.rv_asm.specs.declared.item.Item.TheVariants.{Line, Bind, Leap}
 
@@ -10,9 +11,13 @@ pub record Assembly : Type 0 where
   pub items : List Item
   pub labels : ℕ
 
+-- an instruction
+abbrev pub line : Inst → Item
+line inst = Line (encoding inst)
+
 -- how many bytes an item takes
 abbrev pub size_of : Item → ℕ
-size_of (Line inst) = 4
+size_of (Line word) = 4
 size_of (Bind label) = 0
 size_of (Leap label link) = 8
 
@@ -23,7 +28,7 @@ size_in (item ∷ items) = size_of item + size_in items
 -- the place of a label in items that begin at a place
 abbrev pub place_from : ℕ → List Item → ℕ → Option ℕ
 place_from at [] label = None
-place_from at (Line inst ∷ items) label = place_from (at + 4) items label
+place_from at (Line word ∷ items) label = place_from (at + 4) items label
 place_from at (Bind bound ∷ items) label = cond (eqb bound label) (Some at) (place_from at items label)
 place_from at (Leap to link ∷ items) label = place_from (at + 8) items label
 

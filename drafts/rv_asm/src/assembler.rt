@@ -1,14 +1,15 @@
 //! The assembler.
 
 ghost use Rattle.std.specs.Prelude.{◌≡◌, ◌+◌, ◌++◌, ◌∷◌, ◌%◌, [], map, IfOk, OnOk, OnErr};
-ghost use Rattle.rv_asm.specs.Items.{size_in, TakesRoom};
-ghost use Rattle.rv_asm.specs.declared.item.Item.TheVariants.{Line, Bind, Leap};
+ghost use Rattle.rv_asm.specs.Items.{size_in, line, TakesRoom};
+ghost use Rattle.rv_isa.specs.Encoding.{IsValid};
+ghost use Rattle.rv_asm.specs.declared.item.Item.TheVariants.{Bind, Leap};
 
 use crate::item::Item;
 use crate::label::Label;
 use crate::no::AsmNo;
 use crate::place::Places;
-use rv_isa::{Inst, Reg};
+use rv_isa::{Inst, Reg, encode};
 use sqlite_items::Items;
 use std::alloc::Global;
 use std::marker::Model;
@@ -59,7 +60,8 @@ impl Assembler {
         self.address + self.size
     }
 
-    /// Adds an item that takes so many bytes. Refused with `Misfit` where its end has no address.
+    /// Adds an item that takes room. Refused with `Misfit` where its end has no address.
+    #[tactic(auto, using(crate::proofs::Placing::place_of_room, crate::proofs::Placing::size_in_append))]
     fn push(&mut self, item: Item) -> Result<(), AsmNo> {
         let size = item.size();
         if u32::MAX - self.address - self.size < size {
@@ -70,17 +72,22 @@ impl Assembler {
         Ok(())
     }
 
-    /// Adds an instruction. Refused with `Misfit` where its end has no address in 32 bits, and for want of memory.
+    /// Adds the word of an instruction. Refused with `Misfit` where it has none, because its immediate is outside the range of its
+    /// format, or where its end has no address in 32 bits; and for want of memory.
     pub fn emit(&mut self, inst: Inst) -> Result<(), AsmNo>
-        ensures added { OnOk result (self.new ≡ record self.old { items = self.old.items ++ Line inst ∷ [] }) }
+        ensures valid { OnOk result (IsValid inst) }
+        ensures added { OnOk result (self.new ≡ record self.old { items = self.old.items ++ line inst ∷ [] }) }
         ensures refused { OnErr result (self.new ≡ self.old) }
     {
-        self.push(Item::Line(inst))
+        if !inst.is_valid() {
+            return Err(AsmNo::Misfit);
+        }
+        self.push(Item::Line(encode(inst)))
     }
 
     /// Adds instructions, one behind the other. Refused as `emit` is.
     pub fn emit_all(&mut self, insts: &[Inst]) -> Result<(), AsmNo>
-        ensures { OnOk result (self.new ≡ record self.old { items = self.old.items ++ map Line insts.now }) }
+        ensures { OnOk result (self.new ≡ record self.old { items = self.old.items ++ map line insts.now }) }
     {
         'insts: for inst in insts {
             self.emit(*inst)?;
@@ -89,6 +96,7 @@ impl Assembler {
     }
 
     /// A new label, which is not bound. Refused with `Misfit` where there are 2^32 - 1 labels, and for want of memory.
+    #[tactic(auto, using(crate::proofs::Placing::place_in_add))]
     pub fn label(&mut self) -> Result<Label, AsmNo>
         ensures made { OnOk result (self.new ≡ record self.old { labels = self.old.labels + 1 }) }
         ensures number { IfOk result (λ label. label ≡ self.old.labels) }
@@ -101,6 +109,7 @@ impl Assembler {
 
     /// The label means the address behind the code so far. Refused with `Misfit` exactly where it is bound, or none of this
     /// assembler's labels, and for want of memory.
+    #[tactic(auto, using(crate::proofs::Placing::bound_behind, crate::proofs::Placing::size_in_append))]
     pub fn bind(&mut self, label: Label) -> Result<(), AsmNo>
         ensures bound { OnOk result (self.new ≡ record self.old { items = self.old.items ++ Bind label ∷ [] }) }
         ensures refused { OnErr result (self.new ≡ self.old) }

@@ -4,13 +4,13 @@ ghost use Rattle.std.specs.Prelude.{◌≡◌, ◌≤◌};
 ghost use Rattle.rv_asm.specs.Items.{size_of};
 
 use crate::label::Label;
-use rv_isa::{Inst, Reg};
+use rv_isa::Reg;
 
 /// A part of code.
 #[derive(Clone, Copy, Debug, PartialEq, Eq)]
 pub enum Item {
-    /// An instruction.
-    Line(Inst),
+    /// The word of an instruction.
+    Line(u32),
     /// The place of a label. It takes no room.
     Bind(Label),
     /// A jump to a label: AUIPC to x31, and JALR from there. The link becomes the address behind it.

@@ -1,6 +1,6 @@
 use Rattle.std.proofs.Common.{◌≡◌, ◌++◌, map, take}
-use Rattle.rv_asm.specs.declared.item.Item.TheVariants.{Line}
+use Rattle.rv_asm.specs.Items.{line}
 use Rattle.rv_asm.proofs.assembler.Assembler.emit_all.Given as goal
 
 abbrev pub invariant-insts : goal.invariant-insts
-invariant-insts l = l.self ≡ record l.fn.self { items = l.fn.self.items ++ map Line (take l.inst-index l.insts) }
+invariant-insts l = l.self ≡ record l.fn.self { items = l.fn.self.items ++ map line (take l.inst-index l.insts) }
