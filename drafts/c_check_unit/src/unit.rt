@@ -5,7 +5,7 @@ ghost use Rattle.check_refusal.specs.Causes.{IsCheckRefusal};
 
 use crate::definition::define;
 use c_check_declaration::declaration;
-use c_scope::Scope;
+use c_scope::{Kept, Scope};
 use c_syntax::{Declaration, External, Tree};
 use c_tree::{TStatement, TypedUnit};
 use check_refusal::CheckRefused;
@@ -35,11 +35,24 @@ fn externals(alloc: Global, scope: &mut Scope, externals: &[External]) -> Result
     Ok(())
 }
 
-/// The typed unit of a tree.
-fn checked(alloc: Global, tree: &Tree) -> Result<TypedUnit, CheckRefused> {
-    let mut scope = Scope::new(alloc)?;
+/// Reads a tree to its end, as a unit of whose candidates for objects these are made.
+fn read(alloc: Global, tree: &Tree, kept: Kept) -> Result<Scope, CheckRefused> {
+    let mut scope = Scope::new(alloc, kept)?;
     externals(alloc, &mut scope, tree.externals.as_slice())?;
-    scope.settle()
+    scope.end()?;
+    Ok(scope)
+}
+
+/// The typed unit of a tree. Where the first reading tells that a candidate for an object is not made, a second one numbers those that
+/// are.
+fn checked(alloc: Global, tree: &Tree) -> Result<TypedUnit, CheckRefused> {
+    let scope = read(alloc, tree, Kept::all(alloc))?;
+    let kept = scope.kept()?;
+    if kept.are_all() {
+        return scope.into_unit();
+    }
+    drop(scope);
+    read(alloc, tree, kept)?.into_unit()
 }
 
 /// The typed unit of a tree: each name stands for what it declares, each expression has its type, each conversion is written out, and

@@ -6,7 +6,7 @@
 #![tactic(auto)]
 
 mod assigned;
-mod declarator;
+mod declarators;
 mod enumeration;
 mod expression;
 mod grammar;

@@ -237,8 +237,7 @@ impl Scope {
         if linked.is_function {
             return Ok(None);
         }
-        let draft = self.add_draft(DraftOf::Linked(symbol), linked.kind, linked.place)?;
-        Ok(Some(draft))
+        self.add_draft(DraftOf::Linked(symbol), linked.kind, linked.place)
     }
 
     /// A further symbol. Gives its index.

@@ -1,6 +1,6 @@
 //! The state of reading a unit.
 
-use crate::draft::{Draft, DraftOf};
+use crate::draft::{Draft, DraftOf, Kept};
 use crate::entity::Entity;
 use crate::frame::{Frame, number};
 use crate::symbol::{LinkedSymbols, SymbolNote};
@@ -25,6 +25,10 @@ pub struct Scope {
     /// The symbols of each name with linkage.
     pub(crate) linked: IndexMap<Vec<u8>, LinkedSymbols>,
     pub(crate) symbols: Vec<SymbolNote>,
+    /// Which candidates for objects are made.
+    kept: Kept,
+    /// How many candidates there were.
+    candidates: usize,
     pub(crate) drafts: Vec<Draft>,
     pub(crate) frame: Frame,
     pub(crate) functions: Vec<TypedFunction>,
@@ -35,8 +39,8 @@ pub struct Scope {
 }
 
 impl Scope {
-    /// An empty unit in its file scope.
-    pub fn new(alloc: Global) -> Result<Scope, NoMemory> {
+    /// An empty unit in its file scope, of whose candidates for objects these are made.
+    pub fn new(alloc: Global, kept: Kept) -> Result<Scope, NoMemory> {
         Ok(Scope {
             alloc,
             types: TypeTable::new(alloc)?,
@@ -44,6 +48,8 @@ impl Scope {
             levels: Scopes::new(alloc),
             linked: IndexMap::new(alloc),
             symbols: Vec::new(alloc),
+            kept,
+            candidates: 0,
             drafts: Vec::new(alloc),
             frame: Frame::idle(alloc),
             functions: Vec::new(alloc),
@@ -110,13 +116,18 @@ impl Scope {
         self.frame.add_call(kind)
     }
 
-    /// A further draft. Gives its index.
+    /// A further candidate for an object. Gives the number of its draft, where it is made.
     pub(crate) fn add_draft(
         &mut self,
         of: DraftOf,
         kind: TypeId,
         place: Place,
-    ) -> Result<u32, NoMemory> {
+    ) -> Result<Option<u32>, NoMemory> {
+        let candidate = self.candidates;
+        self.candidates = candidate.saturating_add(1);
+        if !self.kept.is_kept(candidate) {
+            return Ok(None);
+        }
         let index = number(self.drafts.len())?;
         self.drafts.push(Draft {
             of,
@@ -125,11 +136,11 @@ impl Scope {
             pieces: Items::new(self.alloc),
             is_kept: true,
         })?;
-        Ok(index)
+        Ok(Some(index))
     }
 
-    /// The draft of a string literal, given by its bytes without the closing zero and its type, an array of char. Under `sizeof`
-    /// it is 0, and no draft is made.
+    /// The number of the object of a string literal, given by its bytes without the closing zero, its type, an array of char, and
+    /// its place. Under `sizeof`, and where it fills an array, it makes none, and the number names no object.
     pub fn draft_text(
         &mut self,
         bytes: &Bytes,
@@ -137,13 +148,14 @@ impl Scope {
         place: Place,
     ) -> Result<u32, NoMemory> {
         if self.quiet != 0 {
-            return Ok(0);
+            return Ok(u32::MAX);
         }
         let bytes = Bytes::from_slice(self.alloc, bytes.as_slice())?;
-        self.add_draft(DraftOf::Text(bytes), kind, place)
+        let draft = self.add_draft(DraftOf::Text(bytes), kind, place)?;
+        Ok(draft.unwrap_or(u32::MAX))
     }
 
-    /// The draft of a static object of a block.
+    /// The number of the static object of a block.
     pub fn draft_static(
         &mut self,
         name: &Name,
@@ -151,7 +163,8 @@ impl Scope {
         place: Place,
     ) -> Result<u32, NoMemory> {
         let name = Name::from_slice(self.alloc, name.as_slice())?;
-        self.add_draft(DraftOf::Static(name), kind, place)
+        let draft = self.add_draft(DraftOf::Static(name), kind, place)?;
+        Ok(draft.unwrap_or(u32::MAX))
     }
 
     /// A string fills an array of characters and makes no object.

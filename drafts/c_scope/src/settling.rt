@@ -1,7 +1,6 @@
 //! The end of a unit.
 
-use crate::draft::{Draft, DraftOf};
-use crate::frame::number;
+use crate::draft::{Draft, DraftOf, Kept};
 use crate::scope::Scope;
 use crate::symbol::{Defined, SymbolNote};
 use c_tree::{
@@ -10,7 +9,6 @@ use c_tree::{
 use c_types::{CHAR, LayoutNo, TypeId, TypeNode, TypeTable};
 use check_refusal::{CheckRefused, CheckRule, broken};
 use fsc_base::{Bytes, Name, NoMemory, Place};
-use object_numbers::{NumberNo, Numbers, numbered_function, numbered_pieces};
 use sqlite_items::Items;
 use std::alloc::Global;
 use std::default::MadeWith;
@@ -81,25 +79,6 @@ fn is_kept(symbols: &[SymbolNote], draft: &Draft) -> bool {
     }
 }
 
-/// The numbers of the drafts that are kept.
-fn numbers(alloc: Global, symbols: &[SymbolNote], drafts: &[Draft]) -> Result<Numbers, NoMemory> {
-    let mut numbers = Numbers::new(alloc);
-    for draft in drafts {
-        numbers.add(is_kept(symbols, draft))?;
-    }
-    Ok(numbers)
-}
-
-/// A refusal of numbering, for trees of a declarator there. A number of no draft, or too deep a tree, can't come; they are refused as an
-/// undeclared name and as too deep a text.
-fn refusal(no: NumberNo, place: Place) -> CheckRefused {
-    match no {
-        NumberNo::Absent(place) => broken(CheckRule::K19, place),
-        NumberNo::Deep => broken(CheckRule::L03, place),
-        NumberNo::NoMemory => CheckRefused::NoMemory,
-    }
-}
-
 /// The piece of a string's byte.
 fn byte_piece(offset: u32, byte: u8, place: Place) -> Piece {
     Piece {
@@ -128,58 +107,34 @@ fn text_pieces(alloc: Global, bytes: &Bytes, place: Place) -> Result<Items<Piece
     Ok(pieces)
 }
 
-/// Where a symbol's first declarator stands; of no symbol the first line of the unit.
-fn place_of(symbols: &[SymbolNote], symbol: u32) -> Place {
-    match symbols.get(symbol as usize) {
-        Some(note) => note.place,
-        None => Place {
-            unit: 0,
-            file: 0,
-            line: 1,
-        },
+/// The object of that name and type. A type that is not complete can't come and is refused.
+fn object(
+    types: &TypeTable,
+    name: Name,
+    kind: TypeId,
+    pieces: Items<Piece>,
+    place: Place,
+) -> Result<TypedObject, CheckRefused> {
+    match types.size(kind) {
+        Some(size) => Ok(TypedObject {
+            name,
+            kind,
+            size,
+            pieces,
+        }),
+        None => Err(broken(CheckRule::K18, place)),
     }
 }
 
-/// What ends the parts of a unit.
+/// What the objects of a unit are made of.
 #[derive(Clone, Copy)]
 struct Settling<'a> {
     alloc: Global,
     types: &'a TypeTable,
     symbols: &'a [SymbolNote],
-    numbers: &'a Numbers,
 }
 
 impl Settling<'_> {
-    /// The object of that name and type. A type that is not complete can't come and is refused.
-    fn object(
-        &self,
-        name: Name,
-        kind: TypeId,
-        pieces: Items<Piece>,
-        place: Place,
-    ) -> Result<TypedObject, CheckRefused> {
-        match self.types.size(kind) {
-            Some(size) => Ok(TypedObject {
-                name,
-                kind,
-                size,
-                pieces,
-            }),
-            None => Err(broken(CheckRule::K18, place)),
-        }
-    }
-
-    /// Pieces whose objects have their new numbers.
-    fn pieces(&self, pieces: Items<Piece>, place: Place) -> Result<Items<Piece>, CheckRefused> {
-        if self.numbers.are_all_kept() {
-            return Ok(pieces);
-        }
-        match numbered_pieces(self.alloc, self.numbers, pieces.as_slice()) {
-            Ok(pieces) => Ok(pieces),
-            Err(no) => Err(refusal(no, place)),
-        }
-    }
-
     /// The object of a symbol.
     fn linked_object(
         &self,
@@ -191,7 +146,7 @@ impl Settling<'_> {
             return Err(broken(CheckRule::K19, place));
         };
         let name = Name::from_slice(self.alloc, note.name.as_slice())?;
-        self.object(name, note.kind, self.pieces(pieces, place)?, place)
+        object(self.types, name, note.kind, pieces, place)
     }
 
     /// The object of a string literal.
@@ -202,7 +157,7 @@ impl Settling<'_> {
         place: Place,
     ) -> Result<TypedObject, CheckRefused> {
         let pieces = text_pieces(self.alloc, bytes, place)?;
-        self.object(Name::made_with(self.alloc), kind, pieces, place)
+        object(self.types, Name::made_with(self.alloc), kind, pieces, place)
     }
 
     /// The object of a draft.
@@ -216,59 +171,28 @@ impl Settling<'_> {
         } = draft;
         match of {
             DraftOf::Text(bytes) => self.text_object(&bytes, kind, place),
-            DraftOf::Static(name) => self.object(name, kind, self.pieces(pieces, place)?, place),
+            DraftOf::Static(name) => object(self.types, name, kind, pieces, place),
             DraftOf::Linked(symbol) => self.linked_object(symbol, pieces, place),
         }
     }
 
-    /// The objects of the drafts that are kept.
+    /// The objects of drafts.
     fn objects(&self, drafts: Vec<Draft>) -> Result<Items<TypedObject>, CheckRefused> {
         let mut objects = Items::new(self.alloc);
         for draft in drafts {
-            if is_kept(self.symbols, &draft) {
-                objects.push(self.drafted(draft)?)?;
-            }
+            objects.push(self.drafted(draft)?)?;
         }
         Ok(objects)
     }
-
-    /// A function whose objects have their new numbers.
-    fn function(&self, function: TypedFunction) -> Result<TypedFunction, CheckRefused> {
-        let place = place_of(self.symbols, function.symbol);
-        match numbered_function(self.alloc, self.numbers, function) {
-            Ok(function) => Ok(function),
-            Err(no) => Err(refusal(no, place)),
-        }
-    }
-
-    /// The functions.
-    fn functions(
-        &self,
-        functions: Vec<TypedFunction>,
-    ) -> Result<Items<TypedFunction>, CheckRefused> {
-        if self.numbers.are_all_kept() {
-            return Ok(Items::from_vec(functions));
-        }
-        let mut numbered = Items::new(self.alloc);
-        for function in functions {
-            numbered.push(self.function(function)?)?;
-        }
-        Ok(numbered)
-    }
-}
-
-/// The number of a symbol's object.
-fn object_number(numbers: &Numbers, note: &SymbolNote) -> Option<u32> {
-    numbers.get(note.draft?)
 }
 
 /// What defines a symbol.
-fn definition(numbers: &Numbers, note: &SymbolNote) -> Result<Definition, CheckRefused> {
+fn definition(note: &SymbolNote) -> Result<Definition, CheckRefused> {
     match note.defined {
         Defined::Nothing => Ok(Definition::Missing),
         Defined::Function(index) => Ok(Definition::Function(index)),
         Defined::Object => {
-            match object_number(numbers, note) {
+            match note.draft {
                 Some(index) => Ok(Definition::Object(index)),
                 None => Err(broken(CheckRule::K19, note.place)),
             }
@@ -277,8 +201,8 @@ fn definition(numbers: &Numbers, note: &SymbolNote) -> Result<Definition, CheckR
 }
 
 /// The symbol of a unit.
-fn typed_symbol(numbers: &Numbers, note: SymbolNote) -> Result<TypedSymbol, CheckRefused> {
-    let definition = definition(numbers, &note)?;
+fn typed_symbol(note: SymbolNote) -> Result<TypedSymbol, CheckRefused> {
+    let definition = definition(&note)?;
     Ok(TypedSymbol {
         name: note.name,
         linkage: note.linkage,
@@ -291,12 +215,11 @@ fn typed_symbol(numbers: &Numbers, note: SymbolNote) -> Result<TypedSymbol, Chec
 /// The symbols of a unit.
 fn typed_symbols(
     alloc: Global,
-    numbers: &Numbers,
     notes: Vec<SymbolNote>,
 ) -> Result<Items<TypedSymbol>, CheckRefused> {
     let mut symbols = Items::new(alloc);
     for note in notes {
-        symbols.push(typed_symbol(numbers, note)?)?;
+        symbols.push(typed_symbol(note)?)?;
     }
     Ok(symbols)
 }
@@ -310,31 +233,8 @@ struct Parts {
     functions: Vec<TypedFunction>,
 }
 
-/// What a scope leaves at the end of its unit.
-fn parts(scope: Scope) -> Parts {
-    let Scope {
-        alloc: _,
-        types,
-        with_const: _,
-        levels: _,
-        linked: _,
-        symbols,
-        drafts,
-        frame: _,
-        functions,
-        open: _,
-        quiet: _,
-    } = scope;
-    Parts {
-        types,
-        symbols,
-        drafts,
-        functions,
-    }
-}
-
-/// The unit of these parts, whose objects have these numbers.
-fn unit(alloc: Global, parts: Parts, numbers: &Numbers) -> Result<TypedUnit, CheckRefused> {
+/// The unit of these parts.
+fn unit(alloc: Global, parts: Parts) -> Result<TypedUnit, CheckRefused> {
     let Parts {
         types,
         symbols,
@@ -345,27 +245,54 @@ fn unit(alloc: Global, parts: Parts, numbers: &Numbers) -> Result<TypedUnit, Che
         alloc,
         types: &types,
         symbols: symbols.as_slice(),
-        numbers,
     };
     let objects = settling.objects(drafts)?;
-    let functions = settling.functions(functions)?;
-    let symbols = typed_symbols(alloc, numbers, symbols)?;
+    let symbols = typed_symbols(alloc, symbols)?;
     Ok(TypedUnit {
         types,
         symbols,
-        functions,
+        functions: Items::from_vec(functions),
         objects,
     })
 }
 
 impl Scope {
-    /// The unit, at its end. At a symbol's first declarator, in order of symbols: K16 where its linkage is internal and it is used
-    /// and not defined, K18 where a tentative definition is the only one and its type is not complete (C90 6.7.2).
-    pub fn settle(self) -> Result<TypedUnit, CheckRefused> {
+    /// Ends the symbols of the unit, in order. At a symbol's first declarator K16 where its linkage is internal and it is used and
+    /// not defined, K18 where a tentative definition is the only one and its type is not complete (C90 6.7.2).
+    pub fn end(&mut self) -> Result<(), CheckRefused> {
+        settle_symbols(&mut self.types, self.symbols.as_mut_slice())
+    }
+
+    /// Which of the objects that the unit may make are made, at its end: not those of names that stay undefined, and not those of
+    /// strings that fill arrays of characters.
+    pub fn kept(&self) -> Result<Kept, NoMemory> {
+        let mut kept = Kept::all(self.alloc);
+        for draft in &self.drafts {
+            kept.add(is_kept(self.symbols.as_slice(), draft))?;
+        }
+        Ok(kept)
+    }
+
+    /// What the unit leaves at its end.
+    fn into_parts(self) -> Parts {
+        let Scope {
+            types,
+            symbols,
+            drafts,
+            functions,
+            ..
+        } = self;
+        Parts {
+            types,
+            symbols,
+            drafts,
+            functions,
+        }
+    }
+
+    /// The unit, at its end, with an object for each candidate that was to be made.
+    pub fn into_unit(self) -> Result<TypedUnit, CheckRefused> {
         let alloc = self.alloc;
-        let mut parts = parts(self);
-        settle_symbols(&mut parts.types, parts.symbols.as_mut_slice())?;
-        let numbers = numbers(alloc, parts.symbols.as_slice(), parts.drafts.as_slice())?;
-        unit(alloc, parts, &numbers)
+        unit(alloc, self.into_parts())
     }
 }

@@ -1,12 +1,12 @@
 -- Where labels stand in code that grows.
-use Rattle.std.proofs.Common.{◌≡◌, ℕ, zero, suc, ◌+◌, ◌<◌, ◌⊎◌, inl, inr, eqb, Bool, true, false, cond, List, [], ◌∷◌, ◌++◌, length, Option, Some, None, refl, sym, ap, ◌∙◌, arith}
+use Rattle.std.proofs.Common.{◌≡◌, ℕ, zero, suc, ◌+◌, inl, inr, eqb, Bool, true, false, cond, List, [], ◌∷◌, ◌++◌, Option, Some, None, refl, sym, ap, ◌∙◌, arith}
 use Rattle.std.proofs.Math.ListN.{set}
 use Rattle.std.proofs.lemmas.List.{get_or-set_other}
 use Rattle.std.proofs.lemmas.Grind.{get_or-set_at}
 use Rattle.std.proofs.lemmas.Bool.Decides.{eqb_tells}
 use Rattle.rv_asm.specs.declared.item.Item.{Item}
 use Rattle.rv_asm.specs.declared.item.Item.TheVariants.{Line, Bind, Leap}
-use Rattle.rv_asm.specs.Items.{size_of, size_in, place_from, place_of, TakesRoom}
+use Rattle.rv_asm.specs.Items.{size_in, place_from, place_of, TakesRoom}
 use Rattle.rv_asm.specs.Places.{place_in, IsUnbound}
 
 pub size_in_append : (xs ys : List Item) → size_in (xs ++ ys) ≡ size_in xs + size_in ys

@@ -6,8 +6,9 @@ use Rattle.std.specs.Int.{w32, to_le_bytes}
 use Rattle.std.proofs.lemmas.Grind.{flat_map-append}
 use Rattle.rv_asm.specs.declared.item.Item.{Item}
 use Rattle.rv_asm.specs.declared.item.Item.TheVariants.{Line, Bind, Leap}
-use Rattle.rv_asm.specs.Items.{size_of, size_in}
-use Rattle.rv_asm.specs.Code.{leap_to, words_at, words_from, IsBound, AreBound, Adds, AddsItems, bytes_of_words}
+use Rattle.rv_asm.specs.Items.{size_of, size_in, place_of}
+use Rattle.rv_asm.specs.Places.{place_in}
+use Rattle.rv_asm.specs.Code.{leap_to, words_at, words_from, IsBound, AreBound, Adds, AddsItems, IsCode, bytes_of_words}
 
 -- ---- items behind items
 
@@ -92,3 +93,13 @@ pub adds_items-same : (f g : ℕ → Option ℕ) (old new : List ℕ) (at : ℕ)
 adds_items-same f g old new at items h adds =
     let P : List ℕ → Type 0 = λ code. Adds old new code in
     (all_bound-same f g h items adds.0, subst P (words_from-same f g h at items) adds.1)
+
+-- the code, by the table of places
+pub finished : (start end result : List ℕ) (places : List (Option ℕ)) (given items whole : List Item) → start ≡ [] → given ≡ items → items ≡ whole → result ≡ end
+    → ((label : ℕ) → place_in places label ≡ place_of items label) → AddsItems start end (place_in places) 0 given → IsCode result whole
+finished start end result places given items whole none lent known last h adds =
+    let from_none = let P : List ℕ → Type 0 = λ old. AddsItems old end (place_in places) 0 given in subst P none adds in
+    let of_items = let P : List Item → Type 0 = λ xs. AddsItems [] end (place_in places) 0 xs in subst P lent from_none in
+    let by_place = adds_items-same (place_in places) (place_of items) [] end 0 items h of_items in
+    let of_whole = let P : List Item → Type 0 = λ xs. AddsItems [] end (place_of xs) 0 xs in subst P known by_place in
+    let P : List ℕ → Type 0 = λ bytes. AddsItems [] bytes (place_of whole) 0 whole in subst P (sym last) of_whole

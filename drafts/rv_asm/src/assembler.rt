@@ -61,8 +61,11 @@ impl Assembler {
     }
 
     /// Adds an item that takes room. Refused with `Misfit` where its end has no address.
-    #[tactic(auto, using(crate::proofs::Placing::place_of_room, crate::proofs::Placing::size_in_append))]
-    fn push(&mut self, item: Item) -> Result<(), AsmNo> {
+    fn push(&mut self, item: Item) -> Result<(), AsmNo>
+        requires { TakesRoom item }
+        ensures added { OnOk result (self.new ≡ record self.old { items = self.old.items ++ item ∷ [] }) }
+        ensures refused { OnErr result (self.new ≡ self.old) }
+    {
         let size = item.size();
         if u32::MAX - self.address - self.size < size {
             return Err(AsmNo::Misfit);
@@ -109,13 +112,15 @@ impl Assembler {
 
     /// The label means the address behind the code so far. Refused with `Misfit` exactly where it is bound, or none of this
     /// assembler's labels, and for want of memory.
-    #[tactic(auto, using(crate::proofs::Placing::bound_behind, crate::proofs::Placing::size_in_append))]
     pub fn bind(&mut self, label: Label) -> Result<(), AsmNo>
         ensures bound { OnOk result (self.new ≡ record self.old { items = self.old.items ++ Bind label ∷ [] }) }
         ensures refused { OnErr result (self.new ≡ self.old) }
     {
-        self.places.set(label, self.size)?;
+        if !self.places.is_unbound(label) {
+            return Err(AsmNo::Misfit);
+        }
         self.items.push(Item::Bind(label))?;
+        self.places.set(label, self.size);
         Ok(())
     }
 

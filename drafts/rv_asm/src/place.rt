@@ -1,10 +1,9 @@
 //! Places of labels.
 
-ghost use Rattle.std.specs.Prelude.{◌≡◌, ◌++◌, ◌∷◌, [], length, slice_set, OnOk, OnErr, Some, None};
+ghost use Rattle.std.specs.Prelude.{◌≡◌, ◌++◌, ◌∷◌, [], length, slice_set, OnOk, OnErr, Some, None, IsTrue, ◌↔◌};
 ghost use Rattle.rv_asm.specs.Places.{place_in, IsUnbound};
 
 use crate::label::Label;
-use crate::no::AsmNo;
 use std::alloc::{AllocError, Global};
 use std::marker::Model;
 
@@ -60,17 +59,19 @@ impl Places {
         }
     }
 
-    /// Binds a label. Refused with `Misfit` exactly where it is bound, or none of these; nothing is changed then.
-    pub fn set(&mut self, label: Label, place: u32) -> Result<(), AsmNo>
-        ensures bound { OnOk result (self.new ≡ slice_set self.old label (Some place)) }
-        ensures unbound { OnOk result (IsUnbound self.old label) }
-        ensures refused { OnErr result (self.new ≡ self.old) }
+    /// Whether a label is one of these and not bound.
+    pub fn is_unbound(&self, label: Label) -> bool
+        ensures { IsTrue result ↔ IsUnbound self.now label }
     {
         let index = label.number() as usize;
-        if self.places.len() <= index || self.places[index].is_some() {
-            return Err(AsmNo::Misfit);
-        }
-        self.places[index] = Some(place);
-        Ok(())
+        index < self.places.len() && self.places[index].is_none()
+    }
+
+    /// Binds a label that is not bound.
+    pub fn set(&mut self, label: Label, place: u32)
+        requires { IsUnbound self.old label }
+        ensures { self.new ≡ slice_set self.old label (Some place) }
+    {
+        self.places[label.number() as usize] = Some(place);
     }
 }
