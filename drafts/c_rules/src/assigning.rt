@@ -12,7 +12,7 @@ use c_syntax::{Binary, Step};
 use c_tree::CompoundOp;
 use c_types::TypeTable;
 use check_refusal::{CheckRefused, CheckRule, broken};
-use fsc_base::{NoMemory, Place};
+use fsc_base::Place;
 use std::alloc::Global;
 
 /// A value of the target's type stored there: a scalar, or a struct or union of this size.
@@ -105,11 +105,11 @@ fn combined_on_common(
     target: Typed,
     value: Typed,
     place: Place,
-) -> Result<Typed, NoMemory> {
+) -> Result<Typed, CheckRefused> {
     let kind = usual(types, &target, &value);
     let op = CompoundOp::Plain(signs.of(is_unsigned(types, kind)));
     let value = convert(alloc, types, value, kind)?;
-    compound(alloc, types, target, op, value, place)
+    Ok(compound(alloc, types, target, op, value, place)?)
 }
 
 /// Shifted in the target's promoted type; the value is promoted.
@@ -120,11 +120,11 @@ fn combined_by_shift(
     target: Typed,
     value: Typed,
     place: Place,
-) -> Result<Typed, NoMemory> {
+) -> Result<Typed, CheckRefused> {
     let kind = promoted_kind(types, &target);
     let op = CompoundOp::Plain(signs.of(is_unsigned(types, kind)));
     let value = promoted(alloc, types, value)?;
-    compound(alloc, types, target, op, value, place)
+    Ok(compound(alloc, types, target, op, value, place)?)
 }
 
 /// A pointer moved by a promoted integer.
@@ -135,9 +135,26 @@ fn combined_pointer(
     target: Typed,
     value: Typed,
     place: Place,
-) -> Result<Typed, NoMemory> {
+) -> Result<Typed, CheckRefused> {
     let value = promoted(alloc, types, value)?;
-    compound(alloc, types, target, op, value, place)
+    Ok(compound(alloc, types, target, op, value, place)?)
+}
+
+/// The target combined so with the value. K29 where they can't be.
+fn combined(
+    alloc: Global,
+    types: &TypeTable,
+    combining: Combining,
+    target: Typed,
+    value: Typed,
+    place: Place,
+) -> Result<Typed, CheckRefused> {
+    match combining {
+        Combining::Common(signs) => combined_on_common(alloc, types, signs, target, value, place),
+        Combining::Shift(signs) => combined_by_shift(alloc, types, signs, target, value, place),
+        Combining::Pointer(op) => combined_pointer(alloc, types, op, target, value, place),
+        Combining::Wrong => Err(broken(CheckRule::K29, place)),
+    }
 }
 
 /// `l op= r`, for a value r (C90 6.3.16.2); `has_const` as in `assignment`. K46 where l is no modifiable lvalue, K29 where the operands
@@ -154,17 +171,10 @@ pub fn compound_assignment(
     if !is_modifiable(types, has_const, &target.tree) {
         return Err(broken(CheckRule::K46, place));
     }
-    let combining = combining_of(
-        op,
-        operand_of(types, target.tree.kind),
-        operand_of(types, value.tree.kind),
-    );
-    Ok(match combining {
-        Combining::Common(signs) => combined_on_common(alloc, types, signs, target, value, place)?,
-        Combining::Shift(signs) => combined_by_shift(alloc, types, signs, target, value, place)?,
-        Combining::Pointer(op) => combined_pointer(alloc, types, op, target, value, place)?,
-        Combining::Wrong => return Err(broken(CheckRule::K29, place)),
-    })
+    let left = operand_of(types, target.tree.kind);
+    let right = operand_of(types, value.tree.kind);
+    let combining = combining_of(op, left, right);
+    combined(alloc, types, combining, target, value, place)
 }
 
 /// What `++` and `--` do to this: an integer, or a pointer to a complete object type; None of all else.

@@ -32,7 +32,7 @@ impl Definers {
     }
 }
 
-fn definers(views: &[LinkView], declarations: &[Declaration]) -> Result<Definers, LinkNo> {
+fn definers_among(views: &[LinkView], declarations: &[Declaration]) -> Result<Definers, LinkNo> {
     let mut found = Definers {
         first: None,
         second: None,
@@ -51,7 +51,7 @@ fn defined_twice(
     name: &[u8],
     declarations: &[Declaration],
 ) -> Result<Option<LinkFault>, LinkNo> {
-    let found = definers(views, declarations)?;
+    let found = definers_among(views, declarations)?;
     match (found.first, found.second) {
         (Some(first), Some(second)) => Ok(Some(broken_at(
             alloc,
@@ -86,7 +86,7 @@ fn is_defined_elsewhere(
     symbol: &LinkSymbol,
 ) -> Result<bool, LinkNo> {
     match names.get(symbol.name.as_slice()) {
-        Some(declarations) => Ok(definers(views, declarations)?.first.is_some()),
+        Some(declarations) => Ok(definers_among(views, declarations)?.first.is_some()),
         None => Ok(false),
     }
 }

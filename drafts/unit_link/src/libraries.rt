@@ -32,7 +32,7 @@ fn is_defined(symbol: &FatSymbol) -> bool {
 }
 
 /// One more mention of a name.
-fn mention(
+fn add_mention(
     alloc: Global,
     mentions: &mut Mentions,
     symbol: &FatSymbol,
@@ -60,7 +60,7 @@ fn mention_unit(
 ) -> Result<(), NoMemory> {
     'symbols: for symbol in symbols {
         if is_external(symbol) {
-            mention(alloc, mentions, symbol)?;
+            add_mention(alloc, mentions, symbol)?;
         }
     }
     Ok(())
