@@ -76,7 +76,11 @@ impl TypeGraph {
 
     /// A part of a node, of a table that begins at an index and has so many nodes.
     fn part(&mut self, first: u32, count: usize, id: TypeId) -> Result<(), NoMemory> {
-        let index = if (id as usize) < count { first.saturating_add(id) } else { 0 };
+        let index = if (id as usize) < count {
+            first.saturating_add(id)
+        } else {
+            0
+        };
         self.parts.push(index)?;
         Ok(())
     }

@@ -29,7 +29,11 @@ impl TypeGraph {
     /// The parts of a node.
     fn parts_at(&self, at: usize, from: usize) -> &[u32] {
         let end = self.parts_end(at);
-        if from <= end && end <= self.parts.len() { &self.parts[from..end] } else { &[] }
+        if from <= end && end <= self.parts.len() {
+            &self.parts[from..end]
+        } else {
+            &[]
+        }
     }
 
     fn is_record_at(&self, at: usize) -> bool {
@@ -42,7 +46,11 @@ impl TypeGraph {
     /// The class of a part of a node: the new one where it is there, and neither is a struct or union.
     fn part_class(&self, part: u32, is_record: bool, old: &[u32], new: &[u32]) -> u32 {
         let at = part as usize;
-        let newer = if is_record || self.is_record_at(at) { None } else { new.get(at) };
+        let newer = if is_record || self.is_record_at(at) {
+            None
+        } else {
+            new.get(at)
+        };
         match newer {
             Some(class) => *class,
             None => old.get(at).copied().unwrap_or(0),

@@ -92,10 +92,7 @@ fn copied_unit(alloc: Global, parts: &FatParts) -> Result<FatUnit, LinkNo> {
 }
 
 /// Copies of units, each of which is tested once more. Refused only for want of memory.
-pub(crate) fn copied_units(
-    alloc: Global,
-    units: &[&FatParts],
-) -> Result<Items<FatUnit>, LinkNo> {
+pub(crate) fn copied_units(alloc: Global, units: &[&FatParts]) -> Result<Items<FatUnit>, LinkNo> {
     let mut copies = Items::new(alloc);
     'units: for unit in units {
         copies.push(copied_unit(alloc, unit)?)?;

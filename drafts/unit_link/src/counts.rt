@@ -20,7 +20,11 @@ fn limited(
     count: u64,
     limit: u64,
 ) -> Result<Option<LinkFault>, NoMemory> {
-    if limit < count { Ok(Some(above(alloc, rule, count, limit)?)) } else { Ok(None) }
+    if limit < count {
+        Ok(Some(above(alloc, rule, count, limit)?))
+    } else {
+        Ok(None)
+    }
 }
 
 fn nodes_of(views: &[LinkView]) -> u64 {
@@ -40,10 +44,7 @@ fn records_of(views: &[LinkView]) -> u64 {
 }
 
 /// M05: too many nodes, or, where these are within their limit, too many struct and union types.
-pub(crate) fn first_m05(
-    alloc: Global,
-    views: &[LinkView],
-) -> Result<Option<LinkFault>, NoMemory> {
+pub(crate) fn first_m05(alloc: Global, views: &[LinkView]) -> Result<Option<LinkFault>, NoMemory> {
     let fault = limited(alloc, Rule::M05, nodes_of(views), MOST_NODES)?;
     if fault.is_some() {
         return Ok(fault);
@@ -79,10 +80,14 @@ fn span_of(size: u32) -> u64 {
 impl Taken {
     /// So many more blocks of so many bytes.
     fn with(self, count: u64, size: u32) -> Taken {
-        let stored = cell_of(size).saturating_add(HEADER_BYTES).saturating_mul(count);
+        let stored = cell_of(size)
+            .saturating_add(HEADER_BYTES)
+            .saturating_mul(count);
         Taken {
             stored: self.stored.saturating_add(stored),
-            bases: self.bases.saturating_add(span_of(size).saturating_mul(count)),
+            bases: self
+                .bases
+                .saturating_add(span_of(size).saturating_mul(count)),
         }
     }
 
@@ -110,10 +115,7 @@ fn taken_by(views: &[LinkView]) -> Taken {
 }
 
 /// M06: the blocks don't fit the storage, or, where they do, the virtual bases.
-pub(crate) fn first_m06(
-    alloc: Global,
-    views: &[LinkView],
-) -> Result<Option<LinkFault>, NoMemory> {
+pub(crate) fn first_m06(alloc: Global, views: &[LinkView]) -> Result<Option<LinkFault>, NoMemory> {
     let taken = taken_by(views);
     let fault = limited(alloc, Rule::M06, taken.stored, MOST_STORED)?;
     if fault.is_some() {

@@ -55,10 +55,7 @@ fn declare_unit(
 }
 
 /// The declarations of units in link order. Refused only for want of memory.
-pub(crate) fn declarations_of(
-    alloc: Global,
-    views: &[LinkView],
-) -> Result<Declarations, NoMemory> {
+pub(crate) fn declarations_of(alloc: Global, views: &[LinkView]) -> Result<Declarations, NoMemory> {
     let mut declarations = IndexMap::new(alloc);
     let mut unit: u32 = 0;
     'units: for view in views {

@@ -79,41 +79,40 @@ pub(crate) fn first_m02(
     Ok(None)
 }
 
-/// Whether some unit defines the name of a symbol with external linkage.
-fn is_defined_elsewhere(
-    views: &[LinkView],
-    names: &Declarations,
-    symbol: &LinkSymbol,
-) -> Result<bool, LinkNo> {
-    match names.get(symbol.name.as_slice()) {
-        Some(declarations) => Ok(definers_among(views, declarations)?.first.is_some()),
-        None => Ok(false),
+/// Whether one of the declarations of a name is used, and none is a definition.
+fn is_undefined(views: &[LinkView], declarations: &[Declaration]) -> Result<bool, LinkNo> {
+    let mut is_used = false;
+    'declarations: for declaration in declarations {
+        let symbol = symbol_at(views, *declaration)?;
+        if symbol.is_defined() {
+            return Ok(false);
+        }
+        is_used = is_used || symbol.is_used;
     }
+    Ok(is_used)
 }
 
-/// Whether a symbol is used and nothing defines it; with internal linkage its own unit alone can.
-fn is_undefined(
-    views: &[LinkView],
-    names: &Declarations,
-    symbol: &LinkSymbol,
-) -> Result<bool, LinkNo> {
-    if !symbol.is_used || symbol.is_defined() {
-        return Ok(false);
-    }
-    if !symbol.is_external() {
-        return Ok(true);
-    }
-    Ok(!is_defined_elsewhere(views, names, symbol)?)
-}
-
-fn undefined_in(
+/// A used name with external linkage that no unit defines.
+fn undefined_name(
     alloc: Global,
     views: &[LinkView],
     names: &Declarations,
+) -> Result<Option<LinkFault>, LinkNo> {
+    'names: for (name, declarations) in names {
+        if is_undefined(views, declarations)? {
+            return Ok(Some(broken(alloc, Rule::M03, name.as_slice())?));
+        }
+    }
+    Ok(None)
+}
+
+/// A used name with internal linkage that its own unit does not define.
+fn undefined_inside(
+    alloc: Global,
     symbols: &[LinkSymbol],
 ) -> Result<Option<LinkFault>, LinkNo> {
     'symbols: for symbol in symbols {
-        if is_undefined(views, names, symbol)? {
+        if symbol.is_used && !symbol.is_external() && !symbol.is_defined() {
             return Ok(Some(broken(alloc, Rule::M03, symbol.name.as_slice())?));
         }
     }
@@ -126,8 +125,12 @@ pub(crate) fn first_m03(
     views: &[LinkView],
     names: &Declarations,
 ) -> Result<Option<LinkFault>, LinkNo> {
+    let fault = undefined_name(alloc, views, names)?;
+    if fault.is_some() {
+        return Ok(fault);
+    }
     'units: for view in views {
-        let fault = undefined_in(alloc, views, names, view.symbols.as_slice())?;
+        let fault = undefined_inside(alloc, view.symbols.as_slice())?;
         if fault.is_some() {
             return Ok(fault);
         }

@@ -32,11 +32,7 @@ fn is_defined(symbol: &FatSymbol) -> bool {
 }
 
 /// One more mention of a name.
-fn add_mention(
-    alloc: Global,
-    mentions: &mut Mentions,
-    symbol: &FatSymbol,
-) -> Result<(), NoMemory> {
+fn add_mention(alloc: Global, mentions: &mut Mentions, symbol: &FatSymbol) -> Result<(), NoMemory> {
     let name = symbol.name.as_slice();
     let before = match mentions.get(name) {
         Some(before) => *before,
@@ -85,7 +81,9 @@ fn is_wanted(mentions: &Mentions, name: &[u8]) -> bool {
 /// Whether a unit of the library defines a wanted name. What it uses itself wants nothing.
 fn is_added(mentions: &Mentions, symbols: &[FatSymbol]) -> bool {
     'symbols: for symbol in symbols {
-        if is_external(symbol) && is_defined(symbol) && is_wanted(mentions, symbol.name.as_slice())
+        if is_external(symbol)
+            && is_defined(symbol)
+            && is_wanted(mentions, symbol.name.as_slice())
         {
             return true;
         }

@@ -105,11 +105,7 @@ fn program_of(
 /// rule of linking is broken, with the first of M01 to M06 that is, the name for which it is broken, and its texts (C90 6.1.2.2, 6.1.2.6,
 /// 6.7); or with `NoMemory`. Its time grows as the units do, and it takes memory for copies of them and for all bytes of their
 /// objects.
-pub fn link(
-    alloc: Global,
-    users: &[FatUnit],
-    library: &[FatUnit],
-) -> Result<ProgramParts, LinkNo> {
+pub fn link(alloc: Global, users: &[FatUnit], library: &[FatUnit]) -> Result<ProgramParts, LinkNo> {
     let added = added(alloc, users, library)?;
     let units = all_units(alloc, users, library, added.as_slice())?;
     let views = views_of(alloc, &units)?;

@@ -191,10 +191,7 @@ impl<'a> Comparing<'a> {
         if has_class(earlier, class) {
             return Ok(None);
         }
-        let later = Representative {
-            declaration,
-            class,
-        };
+        let later = Representative { declaration, class };
         let opponent = self.opponent(earlier, later)?;
         earlier.push(later)?;
         Ok(opponent)

@@ -45,11 +45,7 @@ fn view_pieces(alloc: Global, pieces: &[FatPiece]) -> Result<Items<LinkPiece>, N
     Ok(viewed)
 }
 
-fn view_object(
-    alloc: Global,
-    object: &FatObject,
-    is_sealed: bool,
-) -> Result<LinkObject, NoMemory> {
+fn view_object(alloc: Global, object: &FatObject, is_sealed: bool) -> Result<LinkObject, NoMemory> {
     Ok(LinkObject {
         size: object.size,
         is_sealed,
