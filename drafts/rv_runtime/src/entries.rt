@@ -4,7 +4,7 @@ use fsc_base::Width;
 use rv_asm::Label;
 
 /// The accesses of each width.
-#[derive(Clone, Copy, Debug, PartialEq, Eq)]
+#[derive(Clone, Copy)]
 pub struct Accesses {
     pub load1: Label,
     pub load2: Label,
@@ -15,7 +15,7 @@ pub struct Accesses {
 }
 
 /// What works on ranges of bytes, and deciding.
-#[derive(Clone, Copy, Debug, PartialEq, Eq)]
+#[derive(Clone, Copy)]
 pub struct Ranges {
     /// Copies A4 bytes from A0, A1 to A2, A3, which stays.
     pub copy: Label,
@@ -26,7 +26,7 @@ pub struct Ranges {
 }
 
 /// The allocator, for the blocks of an activation.
-#[derive(Clone, Copy, Debug, PartialEq, Eq)]
+#[derive(Clone, Copy)]
 pub struct Blocks {
     /// Makes a block of size A2, of the shape whose descriptor is A3 behind the data segment's start.
     pub make_block: Label,
@@ -35,7 +35,7 @@ pub struct Blocks {
 }
 
 /// Calls, entries and returns.
-#[derive(Clone, Copy, Debug, PartialEq, Eq)]
+#[derive(Clone, Copy)]
 pub struct Calls {
     /// Calls the word at the start of the frame, with A2 words passed. The result is A0, A1.
     pub call: Label,
@@ -48,7 +48,7 @@ pub struct Calls {
 }
 
 /// The primitives, on A0, A1; a copy is one of the ranges.
-#[derive(Clone, Copy, Debug, PartialEq, Eq)]
+#[derive(Clone, Copy)]
 pub struct Primitives {
     pub put: Label,
     pub get: Label,
@@ -60,7 +60,7 @@ pub struct Primitives {
 }
 
 /// The ends of a run, in order of their kinds from 1: block A1, offset A2 and width A3 where the end has them. They have no link.
-#[derive(Clone, Copy, Debug, PartialEq, Eq)]
+#[derive(Clone, Copy)]
 pub struct Stops {
     pub access: Label,
     pub call: Label,
@@ -72,7 +72,7 @@ pub struct Stops {
 }
 
 /// All labels of the runtime that code names.
-#[derive(Clone, Copy, Debug, PartialEq, Eq)]
+#[derive(Clone, Copy)]
 pub struct Entries {
     /// Accesses of blocks whose shape has one word: the address and, of a store, the word; T4 is the descriptor's place behind the
     /// data segment's start. A load's address and result are A0, A1; a store's address is A2, A3, and its word A0, A1, which stays.

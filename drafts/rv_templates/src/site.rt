@@ -7,13 +7,13 @@ use rv_runtime::Entries;
 /// Where the words of an activation stand from S0 on: behind the return address and the first block, first the slots, then the pending
 /// words. Each takes 8 bytes, its value first. A frame has at most 4,096 bytes, and S0 is 2,048 behind its start, so that one
 /// instruction reaches each word.
-#[derive(Clone, Copy, Debug, PartialEq, Eq)]
+#[derive(Clone, Copy)]
 pub struct Frame {
     pub slots: u8,
 }
 
 /// What an operation's code depends on beside the operation.
-#[derive(Clone, Copy, Debug, PartialEq, Eq)]
+#[derive(Clone, Copy)]
 pub struct Site {
     /// Of the runtime.
     pub entries: Entries,
