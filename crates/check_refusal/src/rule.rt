@@ -92,7 +92,7 @@ pub enum CheckRule {
     L03,
     /// A type larger than 2^27 bytes.
     L05,
-    /// A bit-field.
+    /// A structure or union has no named member.
     L07,
     /// More than 250 parameters, automatic names and struct calls of a function, or more than 63 parameters or
     /// arguments.
