@@ -28,6 +28,14 @@ kind_in (Some block) = kind_of block
 abbrev pub kind_at : Heap → ℕ → Option BlockKind
 kind_at heap number = kind_in (block_at heap number)
 
+-- a block was made under a number, and refuses writes
+abbrev pub is_sealed_in : Option Block → Bool
+is_sealed_in None = false
+is_sealed_in (Some block) = block.is_sealed
+
+abbrev pub is_sealed_at : Heap → ℕ → Bool
+is_sealed_at heap number = is_sealed_in (block_at heap number)
+
 -- a function has no bytes
 abbrev pub HasSizeOfKind : (size : ℕ) → BlockKind → Type 0
 HasSizeOfKind size kind.Function = size ≡ 0

@@ -1,11 +1,11 @@
 //! All blocks that were ever made.
 
-ghost use Rattle.std.specs.Prelude.{◌≡◌, ◌+◌, ◌-◌, ◌^◌, ◌<◌, ◌≤◌, Some, None, IfSome, IsTrue, MatchOption};
+ghost use Rattle.std.specs.Prelude.{◌≡◌, ◌+◌, ◌-◌, ◌^◌, ◌<◌, ◌≤◌, length, Some, None, IfSome, IsTrue, MatchOption};
 ghost use Rattle.c_memory.specs.Access.{clear_of, distance, read_of, refused, within, write_of};
 ghost use Rattle.c_memory.specs.Blocks.{block_at, killed, sealed_at};
 ghost use Rattle.c_memory.specs.Copying.{copy_of};
 ghost use Rattle.c_memory.specs.Storage.{next_base, no_blocks, stored_of};
-ghost use Rattle.byte_blocks.specs.Asking.{is_made, kind_at, lives, HasSizeOfKind};
+ghost use Rattle.byte_blocks.specs.Asking.{is_made, is_sealed_at, kind_at, lives, HasSizeOfKind};
 ghost use Rattle.byte_blocks.specs.Answers.{Copies, Makes, Writes};
 
 use crate::block::Block;
@@ -109,6 +109,23 @@ impl Heap {
         ensures { IfSome (block_at self.now block) (λ made. result ≡ made.base) }
     {
         self.made(block).base()
+    }
+
+    /// How many blocks were made.
+    pub fn count(&self) -> usize
+        ensures { result ≡ length self.now.blocks }
+    {
+        self.blocks.len()
+    }
+
+    /// Whether a block was made under that number and refuses writes.
+    pub fn is_sealed(&self, block: u32) -> bool
+        ensures { result ≡ is_sealed_at self.now block }
+    {
+        match self.find(block) {
+            None => false,
+            Some(block) => block.is_sealed(),
+        }
     }
 
     /// What an access of this width reads: its bytes, the lowest first, and a base where it is a whole word at a multiple

@@ -1,1 +1,4 @@
+pub mod Bits
+pub mod Tables
 pub mod Using
+pub mod Walks

@@ -1,8 +1,7 @@
 -- What follows where no row of the table of faults holds.
-use Rattle.std.proofs.Common.{◌≡◌, ℕ, zero, suc, ◌+◌, ◌*◌, ◌<◌, ◌≤◌, List, [], ◌∷◌, ◌++◌, length, Option, Some, None, Bool, true, false, not, ◌||◌, nat_lt, cond, refl, sym, ap, subst, ◌∙◌, arith, add-zero}
+use Rattle.std.proofs.Common.{◌≡◌, ℕ, zero, suc, ◌+◌, ◌*◌, List, [], ◌∷◌, ◌++◌, length, Option, Some, None, Bool, true, false, ◌||◌, nat_lt, cond, refl, sym, ap, subst, arith}
 use Rattle.std.specs.Prelude.{slice_get, unwrap_or}
 use Rattle.std.proofs.lemmas.Bool.{ltb-false, not-false}
-use Rattle.fsc_base.specs.declared.word.WordKind.{WordKind}
 use Rattle.fat_code.specs.declared.fault.UnitFault.{UnitFault}
 use Rattle.fat_code.specs.declared.fault.Version.TheVariants.{Two}
 use Rattle.fat_code.specs.declared.unit.FatFunction.{FatFunction}

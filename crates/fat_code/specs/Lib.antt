@@ -16,3 +16,4 @@ pub mod States
 pub mod TypeRows
 pub mod UnitRows
 pub mod Views
+pub mod Walking

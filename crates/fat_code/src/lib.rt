@@ -2,13 +2,24 @@
 //! operation does in a run. The definitions stand in `specs/`.
 #![tactic(auto)]
 
+mod check;
 mod fault;
+mod function_check;
+mod height;
 mod laws;
+mod member_check;
+mod object_check;
 mod op;
+mod op_check;
 mod program;
+mod shape_check;
+mod symbol_check;
+mod type_check;
 mod unit;
+mod walk;
 
-pub use fault::{UnitFault, Version};
+pub use check::fault_of;
+pub use fault::{CheckNo, UnitFault, Version};
 pub use laws::{code_has_heights, faults_are_told, programs_are_run, units_are_bounded};
 pub use op::Op;
 pub use program::{BlockList, BlockLists, FatProgram, ProgramParts};

@@ -1,13 +1,18 @@
 //! Units of fat code.
 
-ghost use Rattle.std.specs.Prelude.{◌≡◌, None};
-ghost use Rattle.fat_code.specs.Faults.{IsFaultless};
+ghost use Rattle.std.specs.Prelude.{◌≡◌, None, IfOk, IfErr};
+ghost use Rattle.fat_code.specs.declared.fault.Version.TheVariants.{Two};
+ghost use Rattle.fat_code.specs.Faults.{IsFaultless, table_of};
+ghost use Rattle.fat_code.specs.Walking.{IsFirst};
 
+use crate::check::check;
+use crate::fault::{CheckNo, Version};
 use crate::op::Op;
 use c_ops::{Definition, Linkage};
-use c_types::{TypeId, TypeTable};
+use c_types::{TypeId, TypeNode};
 use fsc_base::{Name, Width};
 use sqlite_items::Items;
+use std::alloc::Global;
 use std::marker::Model;
 use type_desc::Kinds;
 
@@ -77,7 +82,8 @@ pub struct FatObject {
 pub struct FatParts {
     /// How many nodes its text has.
     pub nodes: u32,
-    pub types: TypeTable,
+    /// Nodes that name one another by their indices.
+    pub types: Items<TypeNode>,
     pub shapes: Items<Kinds>,
     pub symbols: Items<FatSymbol>,
     pub functions: Items<FatFunction>,
@@ -109,6 +115,18 @@ impl FatUnit {
         ensures { result ≡ parts }
     {
         FatUnit { parts }
+    }
+
+    /// The unit of these parts, where they have none of the faults of a unit file (`UnitFault`).
+    ///
+    /// `Fault` exactly where they have one, with the first in the order of their file of version 2 and its offset there in bytes;
+    /// `NoMemory` where no memory is left for the check, or where their file would have 2^64 bytes or more.
+    pub fn checked(alloc: Global, parts: FatParts) -> Result<FatUnit, CheckNo>
+        ensures unit { IfOk result (λ unit. unit ≡ parts) }
+        ensures fault { IfErr result (IsFirst (table_of Two parts)) }
+    {
+        check(alloc, &parts, Version::Two)?;
+        Ok(FatUnit { parts })
     }
 
     /// Its parts.
