@@ -33,7 +33,9 @@ fn last_place(tokens: &[Token]) -> Place {
 
 impl<'a> Parser<'a> {
     /// A reader of tokens, of which the last is End, where those names stand for types.
-    pub fn new(tokens: &'a [Token], names: TypeNames) -> Parser<'a> {
+    pub fn new(tokens: &'a [Token], names: TypeNames) -> Parser<'a>
+        ensures { result.rest.now ≡ tokens.now }
+    {
         Parser {
             rest: tokens,
             end: last_place(tokens),
