@@ -6,7 +6,7 @@ use Rattle.fsc_base.specs.declared.rule.Rule.{Rule}
 use Rattle.fsc_outside.specs.Calls.{FileCounts}
 use Rattle.fsc_outside.specs.FileMap.{FileMap, Holds}
 use Rattle.fsc_outside.proofs.Earlier.{fails_earlier, misses_earlier}
-use Rattle.fsc_front.specs.Refusing.{IsCause}
+use Rattle.cpp_text.specs.Outside.{Breaks}
 use Rattle.fsc_ending.specs.declared.ending.Ending.{Ending}
 use Rattle.fsc_ending.specs.declared.ending.Ending.TheVariants.{MissingFile, Rejected}
 use Rattle.fsc_run.specs.Reading.{IsAbsent, NamesFile}
@@ -44,6 +44,6 @@ pub own_absent_file : (ending : Ending) (file : List ℕ) (counts : FileCounts) 
 own_absent_file ending file counts (inl named) why = own_absent named why
 own_absent_file ending file counts (inr memory) why = unit_unheld memory
 
--- a rule is broken
-pub broken_text : (found : Broken) (name file : List ℕ) (counts : FileCounts) → IsCause found counts → RefusesUnit (Rejected found.rule found.place name) file counts
-broken_text found name file counts why = broken found.rule found.place name refl why
+-- a rule of preprocessing is broken
+pub broken_text : (found : Broken) (name file : List ℕ) (counts : FileCounts) → Breaks found counts → RefusesUnit (Rejected found.rule found.place name) file counts
+broken_text found name file counts why = broken found.rule found.place name refl (inl why)

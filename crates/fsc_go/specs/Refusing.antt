@@ -1,12 +1,15 @@
 -- Why a file gave no program.
-use Rattle.std.specs.Prelude.{◌≡◌, ℕ, List, Option, Some}
+use Rattle.std.specs.Prelude.{◌≡◌, ℕ, ◌⊎◌, List, Option, Some}
 use Rattle.fsc_base.specs.declared.place.Place.{Place}
 use Rattle.fsc_base.specs.declared.rule.Rule.{Rule}
-use Rattle.fsc_outside.specs.Calls.{FileCounts, Fails}
+use Rattle.fsc_base.specs.declared.rule.Rule.TheVariants.{K40, L02}
+use Rattle.fsc_outside.specs.Calls.{FileCounts, Fails, Misses}
 use Rattle.fsc_outside.specs.FileMap.{FileMap, Holds}
+use Rattle.pp_token.specs.declared.token.PpToken.{PpToken}
+use Rattle.c_lexer.specs.Lexing.{IsBroken}
+use Rattle.cpp_text.specs.Causes.{OfText}
 use Rattle.plain_text.specs.declared.program.Program.{Program}
 use Rattle.plain_text.specs.Program.{IsPlain}
-use Rattle.fsc_front.specs.Refusing.{IsCause}
 use Rattle.fsc_ending.specs.declared.ending.Ending.{Ending}
 use Rattle.fsc_ending.specs.declared.ending.Ending.TheVariants.{MissingFile, FileFault, Rejected, NotBuilt, NoMemory}
 use Rattle.fsc_ending.specs.declared.ending.Form.TheVariants.{Text}
@@ -20,10 +23,11 @@ IsNoProgram text = (program : Program) → IsPlain text program → ⊥
 abbrev pub GivesProgram : Program → (file : List ℕ) (told : Option FileMap) → Type 0
 GivesProgram program file told = (text : List ℕ) × Holds told file (Some text) × IsPlain text program
 
--- Why a text is rejected: the rule is one of preprocessing, K40 only where a file was absent; or some list of preprocessing
--- tokens breaks it there; or it is one of the parser's or of the checker's.
+-- Why a text is rejected: a rule of preprocessing is broken, K40 only where a file was absent, or some list of
+-- preprocessing tokens breaks a rule of tokens there.
 abbrev pub IsRejection : Rule → Place → FileCounts → Type 0
-IsRejection rule place counts = IsCause (record { rule = rule; place = place }) counts
+IsRejection rule place counts =
+    (OfText rule ⊎ ((rule ≡ L02) ⊎ ((rule ≡ K40) × Misses counts))) ⊎ ((list : List PpToken) × IsBroken list (record { rule = rule; place = place }))
 
 -- Why a unit, with what it includes, is outside what is built: its own file was not there, a file could not be read, a
 -- rule is broken, or none of these.
