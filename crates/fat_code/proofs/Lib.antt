@@ -1,4 +1,5 @@
 pub mod Bits
+pub mod Stripping
 pub mod Tables
 pub mod Using
 pub mod Walks

@@ -1,6 +1,8 @@
+pub mod Bare
 pub mod BoundLaws
 pub mod Calls
 pub mod Faults
+pub mod Divisors
 pub mod FaultLaws
 pub mod FunctionRows
 pub mod Heights

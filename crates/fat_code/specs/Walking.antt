@@ -2,7 +2,6 @@
 use Rattle.std.specs.Prelude.{◌≡◌, ℕ, ◌+◌, ◌*◌, ◌==◌, nat_lt, ◌&&◌, ◌||◌, not, Bool, true, false, List, [], ◌∷◌, ◌++◌, length, take, drop, sum_by, Option, Some, None, Result, Ok, Err}
 use Rattle.c_types.specs.declared.node.Field.{Field}
 use Rattle.c_types.specs.declared.node.TypeNode.{TypeNode}
-use Rattle.c_types.specs.declared.node.TypeNode.TheVariants as node
 use Rattle.fat_code.specs.declared.fault.CheckNo.{CheckNo}
 use Rattle.fat_code.specs.declared.fault.CheckNo.TheVariants.{Fault, NoMemory}
 use Rattle.fat_code.specs.declared.fault.UnitFault.TheVariants.{Limit, Height}
@@ -40,10 +39,6 @@ pub record HasWalked {T : Type 0} (rows : (index at : ℕ) → T → List Row) (
   pub place : start + sum_by bytes items ≡ at + sum_by bytes (drop index items)
 
 -- ---- members, beside the one before
-
-abbrev pub qualified_of : TypeNode → Option ℕ
-qualified_of (node.Qualified of bits) = Some of
-qualified_of _ = None
 
 abbrev pub bit_bytes : Version → ℕ
 bit_bytes One = 0

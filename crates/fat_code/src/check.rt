@@ -19,7 +19,7 @@ use std::alloc::Global;
 pub(crate) fn check(alloc: Global, unit: &FatParts, version: Version) -> Result<u64, CheckNo>
     ensures { Checks (table_of version unit.now) (file_bytes version unit.now) result }
 {
-    let shapes_at = types(version, unit.types.as_slice(), 8)?;
+    let shapes_at = types(alloc, version, unit.types.as_slice(), 8)?;
     let symbols_at = shapes(unit, shapes_at)?;
     let functions_at = symbols(unit, symbols_at)?;
     let objects_at = functions(unit, functions_at)?;

@@ -2,6 +2,7 @@
 //! operation does in a run. The definitions stand in `specs/`.
 #![tactic(auto)]
 
+mod bare;
 mod check;
 mod fault;
 mod function_check;
@@ -11,6 +12,7 @@ mod member_check;
 mod object_check;
 mod op;
 mod op_check;
+mod period;
 mod program;
 mod shape_check;
 mod symbol_check;

@@ -2,11 +2,12 @@
 
 ghost use Rattle.std.specs.Prelude.{◌≡◌, ◌+◌, ◌∷◌, [], length, slice_get, sum_by};
 ghost use Rattle.std.specs.Option.{option_copied};
-ghost use Rattle.c_types.specs.Nodes.{node_at, unqualified};
+ghost use Rattle.c_types.specs.Nodes.{node_at};
+ghost use Rattle.fat_code.specs.Bare.{AreBare};
 ghost use Rattle.fat_code.specs.Lengths.{member_bytes, record_bytes};
 ghost use Rattle.fat_code.specs.Rows.{rows_from};
 ghost use Rattle.fat_code.specs.TypeRows.{is_int, is_int_node, is_bit_type, before_in, follows, is_misplaced, first_row, count_row, bit_rows, member_rows, record_rows};
-ghost use Rattle.fat_code.specs.Walking.{Checks, bit_bytes, qualified_of, rows_of_member};
+ghost use Rattle.fat_code.specs.Walking.{Checks, bit_bytes, rows_of_member};
 
 use crate::fault::{CheckNo, UnitFault, Version};
 use crate::walk::{further, index, name, number};
@@ -45,43 +46,23 @@ fn is_int_node(node: &TypeNode) -> bool
     }
 }
 
-/// The type that a qualified type qualifies; None of every other.
-fn qualified_of(nodes: &[TypeNode], id: u32) -> Option<u32>
-    ensures { result ≡ qualified_of (node_at nodes.now id) }
+/// Whether a number names int or unsigned.
+fn names_int(nodes: &[TypeNode], id: u32) -> bool
+    ensures { result ≡ is_int_node (node_at nodes.now id) }
 {
-    match nodes.get(id as usize)? {
-        TypeNode::Qualified { of, .. } => Some(*of),
-        TypeNode::Void
-        | TypeNode::Basic(_)
-        | TypeNode::Pointer(_)
-        | TypeNode::Array { .. }
-        | TypeNode::Function { .. }
-        | TypeNode::Struct(_)
-        | TypeNode::Union(_)
-        | TypeNode::Enum(_) => None,
+    match nodes.get(id as usize) {
+        Some(node) => is_int_node(node),
+        None => false,
     }
-}
-
-/// A type without its qualifiers.
-fn bare(nodes: &[TypeNode], id: u32) -> u32
-    ensures { result ≡ unqualified nodes.now id }
-{
-    let mut bare = id;
-    for _step in 0..nodes.len() {
-        match qualified_of(nodes, bare) {
-            Some(of) => bare = of,
-            None => return bare,
-        }
-    }
-    bare
 }
 
 /// Whether a type is int or unsigned, perhaps qualified.
-fn is_bit_type(nodes: &[TypeNode], kind: u32) -> bool
+fn is_bit_type(nodes: &[TypeNode], bare: &[u32], kind: u32) -> bool
+    requires { AreBare nodes.now bare.now }
     ensures { result ≡ is_bit_type nodes.now kind }
 {
-    match nodes.get(bare(nodes, kind) as usize) {
-        Some(node) => is_int_node(node),
+    match bare.get(kind as usize) {
+        Some(id) => names_int(nodes, *id),
         None => false,
     }
 }
@@ -116,10 +97,11 @@ fn first_bit(is_union: bool, before: Option<&Field>, field: &Field, at: u64) -> 
 }
 
 /// How many bits a member has.
-fn bit_count(nodes: &[TypeNode], field: &Field, at: u64) -> Result<u64, CheckNo>
+fn bit_count(nodes: &[TypeNode], bare: &[u32], field: &Field, at: u64) -> Result<u64, CheckNo>
+    requires { AreBare nodes.now bare.now }
     ensures { Checks (count_row nodes.now field.now at ∷ []) (at + 4) result }
 {
-    let holds = field.count > 32 || (field.count > 0 && !is_bit_type(nodes, field.kind));
+    let holds = field.count > 32 || (field.count > 0 && !is_bit_type(nodes, bare, field.kind));
     number(UnitFault::Limit, holds, at)
 }
 
@@ -127,18 +109,20 @@ fn bit_count(nodes: &[TypeNode], field: &Field, at: u64) -> Result<u64, CheckNo>
 fn bits(
     version: Version,
     nodes: &[TypeNode],
+    bare: &[u32],
     is_union: bool,
     before: Option<&Field>,
     field: &Field,
     at: u64,
 ) -> Result<u64, CheckNo>
+    requires { AreBare nodes.now bare.now }
     ensures { Checks (bit_rows version nodes.now is_union (option_copied before.entry) field.now at) (at + bit_bytes version) result }
 {
     match version {
         Version::One => Ok(at),
         Version::Two => {
             let count_at = first_bit(is_union, before, field, at)?;
-            bit_count(nodes, field, count_at)
+            bit_count(nodes, bare, field, count_at)
         }
     }
 }
@@ -147,16 +131,18 @@ fn bits(
 fn member(
     version: Version,
     nodes: &[TypeNode],
+    bare: &[u32],
     is_union: bool,
     before: Option<&Field>,
     field: &Field,
     at: u64,
 ) -> Result<u64, CheckNo>
+    requires { AreBare nodes.now bare.now }
     ensures { Checks (rows_of_member version nodes.now is_union (option_copied before.entry) at field.now) (at + member_bytes version field.now) result }
 {
     let kind_at = name(field.name.as_slice(), at)?;
     let bits_at = index(field.kind, nodes.len(), kind_at)?;
-    bits(version, nodes, is_union, before, field, bits_at)
+    bits(version, nodes, bare, is_union, before, field, bits_at)
 }
 
 /// The member before the one with an index.
@@ -173,16 +159,18 @@ fn before_in(fields: &[Field], index: usize) -> Option<&Field>
 fn members(
     version: Version,
     nodes: &[TypeNode],
+    bare: &[u32],
     is_union: bool,
     fields: &[Field],
     start: u64,
 ) -> Result<u64, CheckNo>
+    requires { AreBare nodes.now bare.now }
     ensures { Checks (rows_from (member_rows version nodes.now is_union fields.now) (member_bytes version) 0 start fields.now) (start + sum_by (member_bytes version) fields.now) result }
 {
     let mut at = start;
     for index in 0..fields.len() {
         let before = before_in(fields, index);
-        at = member(version, nodes, is_union, before, &fields[index], at)?;
+        at = member(version, nodes, bare, is_union, before, &fields[index], at)?;
     }
     Ok(at)
 }
@@ -191,14 +179,23 @@ fn members(
 pub(crate) fn record(
     version: Version,
     nodes: &[TypeNode],
+    bare: &[u32],
     is_union: bool,
     parts: &Record,
     at: u64,
 ) -> Result<u64, CheckNo>
+    requires { AreBare nodes.now bare.now }
     ensures { Checks (record_rows version nodes.now is_union (at + 4) parts.now) (at + (4 + record_bytes version parts.now)) result }
 {
     let tag_at = further(at, 4)?;
     let complete_at = name(parts.tag.as_slice(), tag_at)?;
     let first_at = further(complete_at, 8)?;
-    members(version, nodes, is_union, parts.fields.as_slice(), first_at)
+    members(
+        version,
+        nodes,
+        bare,
+        is_union,
+        parts.fields.as_slice(),
+        first_at,
+    )
 }

@@ -7,17 +7,18 @@ ghost use Rattle.fat_code.specs.UnitRows.{is_shape, shape_rows, rows_of_shapes};
 ghost use Rattle.fat_code.specs.Walking.{Checks};
 
 use crate::fault::{CheckNo, UnitFault};
+use crate::period::is_least;
 use crate::type_check::records;
 use crate::unit::FatParts;
 use crate::walk::{further, limit, test};
 use fsc_base::WordKind;
-use type_desc::{Kinds, least_period};
+use type_desc::Kinds;
 
 /// Whether a list of kinds is a shape: it isn't empty, and no shorter one gives it when it is repeated.
 fn is_shape(kinds: &[WordKind]) -> bool
     ensures { result ≡ is_shape kinds.now }
 {
-    !kinds.is_empty() && least_period(kinds) == kinds.len()
+    !kinds.is_empty() && is_least(kinds)
 }
 
 /// A shape.

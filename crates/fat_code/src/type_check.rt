@@ -2,15 +2,18 @@
 
 ghost use Rattle.std.specs.Prelude.{◌≡◌, ◌+◌, ◌*◌, ◌∷◌, [], length, count_by, sum_by};
 ghost use Rattle.c_types.specs.Nodes.{node_at};
+ghost use Rattle.fat_code.specs.Bare.{AreBare};
 ghost use Rattle.fat_code.specs.Lengths.{list_bytes, node_bytes};
 ghost use Rattle.fat_code.specs.Rows.{rows_from, rows_of_list};
 ghost use Rattle.fat_code.specs.TypeRows.{is_record, part_row, four_bytes, parameter_rows, node_rows, type_rows};
 ghost use Rattle.fat_code.specs.Walking.{Checks};
 
+use crate::bare::bare_types;
 use crate::fault::{CheckNo, UnitFault, Version};
 use crate::member_check::record;
 use crate::walk::{further, name, number};
 use c_types::TypeNode;
+use std::alloc::Global;
 
 /// Whether it is a struct or union.
 fn is_record(node: &TypeNode) -> bool
@@ -106,10 +109,12 @@ fn derived_with(nodes: &[TypeNode], own: usize, of: u32, at: u64) -> Result<u64,
 fn node(
     version: Version,
     nodes: &[TypeNode],
+    bare: &[u32],
     own: usize,
     this: &TypeNode,
     at: u64,
 ) -> Result<u64, CheckNo>
+    requires { AreBare nodes.now bare.now }
     ensures { Checks (node_rows version nodes.now own at this.now) (at + node_bytes version this.now) result }
 {
     match this {
@@ -122,8 +127,8 @@ fn node(
             parameters,
             ..
         } => function(nodes, own, *returns, parameters.as_slice(), at),
-        TypeNode::Struct(parts) => record(version, nodes, false, parts, at),
-        TypeNode::Union(parts) => record(version, nodes, true, parts, at),
+        TypeNode::Struct(parts) => record(version, nodes, bare, false, parts, at),
+        TypeNode::Union(parts) => record(version, nodes, bare, true, parts, at),
         TypeNode::Enum(tag) => {
             let tag_at = further(at, 4)?;
             name(tag.as_slice(), tag_at)
@@ -133,21 +138,33 @@ fn node(
 }
 
 /// The types of a table, behind their count.
-fn nodes_from(version: Version, nodes: &[TypeNode], start: u64) -> Result<u64, CheckNo>
+fn nodes_from(
+    version: Version,
+    nodes: &[TypeNode],
+    bare: &[u32],
+    start: u64,
+) -> Result<u64, CheckNo>
+    requires { AreBare nodes.now bare.now }
     ensures { Checks (rows_from (node_rows version nodes.now) (node_bytes version) 0 start nodes.now) (start + sum_by (node_bytes version) nodes.now) result }
 {
     let mut at = start;
     for index in 0..nodes.len() {
-        at = node(version, nodes, index, &nodes[index], at)?;
+        at = node(version, nodes, bare, index, &nodes[index], at)?;
     }
     Ok(at)
 }
 
 /// A table of types.
 #[tactic(auto, unfolding(crate::specs::TypeRows::type_rows))]
-pub(crate) fn types(version: Version, nodes: &[TypeNode], at: u64) -> Result<u64, CheckNo>
+pub(crate) fn types(
+    alloc: Global,
+    version: Version,
+    nodes: &[TypeNode],
+    at: u64,
+) -> Result<u64, CheckNo>
     ensures { Checks (type_rows version at nodes.now) (at + list_bytes (node_bytes version) nodes.now) result }
 {
+    let bare = bare_types(alloc, nodes)?;
     let first_at = further(at, 4)?;
-    nodes_from(version, nodes, first_at)
+    nodes_from(version, nodes, bare.as_slice(), first_at)
 }

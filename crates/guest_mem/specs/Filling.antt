@@ -1,5 +1,5 @@
 -- What a fill takes from the input, and what it leaves in memory.
-use Rattle.std.specs.Prelude.{◌≡◌, ℕ, ◌≤◌, List, ◌++◌, length, take, drop, Option, Some, None}
+use Rattle.std.specs.Prelude.{◌≡◌, ℕ, ◌<◌, ◌≤◌, List, ◌++◌, length, take, drop, Option, Some, None}
 use Rattle.guest_mem.specs.Regions.{Region}
 use Rattle.guest_mem.specs.Layout.{AreBytes}
 use Rattle.guest_mem.specs.Guest.{part, with_part, bytes_at, with_bytes}
@@ -22,7 +22,7 @@ TakesFront bytes (Some left) new = (bytes ≡ take (length bytes) left) × (new 
 -- what a fill of n bytes took
 abbrev pub TakesBy : Filled → (n : ℕ) (before after : Option (List ℕ)) (bytes : List ℕ) → Type 0
 TakesBy (filled.Read count) n before after bytes = (length bytes ≡ count) × TakesUpTo n before after bytes
-TakesBy (filled.Failed count) n before after bytes = (length bytes ≡ count) × TakesFront bytes before after
+TakesBy (filled.Failed count) n before after bytes = (length bytes ≡ count) × (length bytes < n) × TakesFront bytes before after
 
 -- ---- memory
 

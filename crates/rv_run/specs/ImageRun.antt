@@ -99,7 +99,7 @@ IsStarved (Traps kind) before after = ⊥
 -- the source failed while an instruction took from it, and the buffer begins with what was taken
 abbrev pub IsReadCut : Action → (old new : State) (before after : Streams) → Type 0
 IsReadCut (Takes n t) old new before after =
-    (bytes : List ℕ) × (new ≡ counted (with_filled old bytes)) × TakesFront bytes before.left after.left × (length bytes ≤ n)
+    (bytes : List ℕ) × (new ≡ counted (with_filled old bytes)) × TakesFront bytes before.left after.left × (length bytes < n)
     × (after.written ≡ before.written) × AreBytes bytes
 IsReadCut (Goes bytes t) old new before after = ⊥
 IsReadCut (Exits status) old new before after = ⊥

@@ -80,6 +80,6 @@ returns-in-Failed-clause-fills g c =
       front,
       few,
       before.took.2 ∙ sym (part_kept c.args.self.now.region c.args.at c.args.n front (c.requires.from, c.requires.to) few),
-      (before.took.1, takes_front _ _ _ (takes_no_more _ _ _ _ before.took.3 c.in-Failed.ensures.taken)),
+      (before.took.1, omega (arith, before.took.1), takes_front _ _ _ (takes_no_more _ _ _ _ before.took.3 c.in-Failed.ensures.taken)),
       before.took.4,
     )

@@ -1,0 +1,15 @@
+pub mod Breaking
+pub mod Declarations
+pub mod Expressions
+pub mod Levels
+pub mod NameLaws
+pub mod Names
+pub mod OperatorLaws
+pub mod Parts
+pub mod Repeating
+pub mod Samples
+pub mod StatementLaws
+pub mod Statements
+pub mod Tokens
+pub mod Trees
+pub mod Units
