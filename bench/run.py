@@ -70,18 +70,23 @@ def image(code):
     return header + table + bytes(PAGE - len(header) - len(table)) + body
 
 
-def measure(command):
-    """Processor seconds, and peak memory in KiB, of a command whose output is thrown away."""
-    child = subprocess.Popen(command, stdout=subprocess.DEVNULL, stdin=subprocess.DEVNULL)
+def measure(command, wanted=0):
+    """Processor seconds, and peak memory in KiB, of a command that has to end with that status and whose output is thrown away."""
+    child = subprocess.Popen(command, stdout=subprocess.DEVNULL, stderr=subprocess.DEVNULL, stdin=subprocess.DEVNULL)
     _, status, usage = os.wait4(child.pid, 0)
-    if status != 0:
+    if os.waitstatus_to_exitcode(status) != wanted:
         sys.exit(f"{command} ended with {os.waitstatus_to_exitcode(status)}")
     return usage.ru_utime + usage.ru_stime, usage.ru_maxrss
 
 
+def least_ended(turns, command, wanted):
+    """The least time of some turns that end with that status, and the memory then."""
+    return min(measure(command, wanted) for _ in range(turns))
+
+
 def least(turns, command):
     """The least time of some turns, and the memory then."""
-    return min(measure(command) for _ in range(turns))
+    return least_ended(turns, command, 0)
 
 
 def main():

@@ -1,19 +1,25 @@
 #!/usr/bin/env python3
-"""Measures the text half of the front end: how fast `fsc go` preprocesses and lexes large C texts, beside `gcc -E`.
+"""Measures the front end: how fast `fsc go` preprocesses, parses and checks large C texts, beside `gcc`.
 
     bench/text.py PROGRAM
 
 PROGRAM is the built `fsc`. Each text is made once and at half its size, so that growth shows: twice the text should take
-at most 2.2 times the time. Each is outside what is built after lexing, so that `fsc` ends with the line `not built`.
-`gcc -E -P` reads the same file in the same run, and writes its output to nowhere.
+at most 2.2 times the time. Behind each stands one more function, which uses a name that is not declared: so all of it is checked
+and `fsc` ends there with the rule; one text breaks the bound on depth before. In the same run `gcc` reads the same text without that
+function: `gcc -E -P`, which writes its output to nowhere, and `gcc -m32 -std=c90 -fsyntax-only`, which does what the whole front
+end does.
 """
 import os
+import resource
 import subprocess
 import sys
 import tempfile
 import time
 
 RUNS = 3
+# what the checker refuses behind a whole text
+BROKEN = "int last_function(void) { return no_such_name; }\n"
+REJECTED = 123
 
 
 def plain(size):
@@ -56,6 +62,34 @@ def chain(size):
     return "".join(lines), count * 2 + 11
 
 
+def unit(size):
+    """Plain C of just under 2^20 tokens at size 1: functions, structures and globals, 75 tokens for each function."""
+    count = int(13_900 * size)
+    lines = []
+    for k in range(count):
+        lines.append(
+            f"struct record_{k} {{ int first; char name[8]; struct record_{k} *next; }};\n"
+            f"struct record_{k} list_{k}[4];\n"
+            f"static int limit_{k} = {k};\n"
+            f"int function_{k}(struct record_{k} *at, int least)\n"
+            f"{{\n    while (at && at->first < least) at = at->next;\n"
+            f"    return at ? at->name[least & 7] : limit_{k};\n}}\n\n"
+        )
+    return "".join(lines), count * 75
+
+
+def statements(size):
+    """One function of 20,000 statements at size 1."""
+    count = int(5_000 * size)
+    lines = ["int table[256];\nint function(int first, int *at)\n{\n    int sum = 0;\n"]
+    for k in range(count):
+        lines.append(
+            f"    sum = sum * 31 + table[{k & 255}];\n    if (sum > {k}) sum -= first << {k % 31};\n"
+            f"    at[{k}] = sum ? first : table[sum & 255] + {k};\n    table[{k & 255}]++;\n"
+        )
+    return "".join(lines) + "    return sum;\n}\n", count * 47
+
+
 def seconds(command, status):
     """The least time of some runs of a command, which has to end with that status."""
     best = None
@@ -69,25 +103,35 @@ def seconds(command, status):
     return best
 
 
+def most_memory():
+    """The most memory that any command had so far, in MB."""
+    return resource.getrusage(resource.RUSAGE_CHILDREN).ru_maxrss // 1000
+
+
 def main():
     if len(sys.argv) != 2:
         sys.exit(__doc__)
     with tempfile.TemporaryDirectory() as folder:
-        for make in (plain, skipped, macros, chain):
+        for make in (plain, skipped, macros, chain, unit, statements):
             before = None
             for size in (0.5, 1):
                 text, tokens = make(size)
                 path = os.path.join(folder, "text.c")
                 with open(path, "w") as file:
                     file.write(text)
-                ours = seconds([sys.argv[1], "go", path], 116)
+                broken = os.path.join(folder, "broken.c")
+                with open(broken, "w") as file:
+                    file.write(text + BROKEN)
+                ours = seconds([sys.argv[1], "go", broken], REJECTED)
                 gcc = seconds(["gcc", "-E", "-P", "-ftrack-macro-expansion=0", path], 0)
+                whole = seconds(["gcc", "-m32", "-std=c90", "-fsyntax-only", path], 0)
                 growth = "" if before is None else f", {ours / before:.2f} times the half"
                 before = ours
                 print(
                     f"{make.__name__:8} {len(text) / 1e6:6.2f} MB {tokens:8} tokens: {ours:6.3f} s,"
                     f" {len(text) / ours / 1e6:6.1f} MB/s, {tokens / ours / 1e6:5.2f} M tokens/s;"
-                    f" gcc -E {gcc:6.3f} s, ratio {gcc / ours:.2f}{growth}",
+                    f" gcc -E {gcc:6.3f} s, ratio {gcc / ours:.2f}; gcc -fsyntax-only {whole:6.3f} s, ratio {whole / ours:.2f};"
+                    f" {most_memory()} MB{growth}",
                     flush=True,
                 )
 

@@ -84,10 +84,11 @@ pub data Matches (nodes others : List TypeNode) (pairs : Pairs) : TypeNode → T
   -- the numbers of elements are the same, where both are known
   arrays : {one other count number : ℕ} → IsTrue (pairs one other) → (count ≡ 0) ⊎ ((number ≡ 0) ⊎ (count ≡ number))
       → Matches nodes others pairs (Array one count) (Array other number)
-  -- two prototypes
+  -- two prototypes: a function's node holds its parameters without their qualifiers, which are not compared (C90 6.5.4.3)
   prototypes : {one other : ℕ} {is_variadic : Bool} {parameters arguments : List ℕ} → IsTrue (pairs one other) → AreParameters pairs parameters arguments
       → Matches nodes others pairs (Function one true parameters is_variadic) (Function other true arguments is_variadic)
-  -- a prototype beside a declaration without one has no ellipsis, and parameters that the promotions leave as they are
+  -- a prototype beside a declaration without one has no ellipsis, and parameters that the promotions leave as they are; what a definition
+  -- with a list of names says of its parameters stands in no type, and is compared by the checker (K04)
   prototype_first : {one other : ℕ} {is_variadic : Bool} {parameters arguments : List ℕ} → IsTrue (pairs one other) → AreKept nodes parameters
       → Matches nodes others pairs (Function one true parameters false) (Function other false arguments is_variadic)
   prototype_second : {one other : ℕ} {is_variadic : Bool} {parameters arguments : List ℕ} → IsTrue (pairs one other) → AreKept others arguments

@@ -9,9 +9,9 @@ use Rattle.clap.specs.declared.parser.matches.MatchedArg.{MatchedArg}
 use Rattle.clap.specs.declared.builder.value_parser.Reading.{Reading}
 use Rattle.clap.specs.declared.builder.value_parser.ValueParser.TheVariants as parser
 use Rattle.clap.proofs.WalkLemmas.{first_value-rows, one_text-rows, raw_values-rows}
-use Rattle.command_line.specs.Commands.{default_steps}
+use Rattle.command_line.specs.Commands.{default_cost, default_steps}
 use Rattle.command_line.specs.Matching.{AreRead, IsNumeralIn, IsRead, IsSwitch, is_switched_on}
-use Rattle.command_line.specs.Requests.{Takes, number_in, stats_in, steps_in}
+use Rattle.command_line.specs.Requests.{Takes, cost_in, number_in, stats_in, steps_in}
 
 pub rules_read : (command literal : App) (f : Found) → command ≡ literal → AreRead command.top.rules f → AreRead literal.top.rules f
 rules_read command literal f is read = subst (λ (a : App). AreRead a.top.rules f) is read
@@ -31,6 +31,9 @@ module _ (command literal : App) (words : List Text) (f : Found) (is : command �
 
   pub steps_is : (steps : ℕ) → steps ≡ option_map_or number_in (one_text f (codes "steps")) default_steps → steps_in (matches_of literal words) ≡ steps
   steps_is steps e = ap (λ t. option_map_or number_in t default_steps) (one_is (codes "steps")) ∙ sym e
+
+  pub cost_is : (cost : ℕ) → cost ≡ option_map_or number_in (one_text f (codes "cost")) default_cost → cost_in (matches_of literal words) ≡ cost
+  cost_is cost e = ap (λ t. option_map_or number_in t default_cost) (one_is (codes "cost")) ∙ sym e
 
   pub stats_is : (stats : Bool) → stats ≡ is_switched_on (one_text f (codes "stats")) → stats_in (matches_of literal words) ≡ stats
   stats_is stats e = ap is_switched_on (one_is (codes "stats")) ∙ sym e

@@ -1,4 +1,4 @@
--- The six commands with their arguments, as clap sees them.
+-- The seven commands with their arguments, as clap sees them.
 use Rattle.std.specs.Prelude.{◌^◌, ℕ, true, [], Some, codes}
 use Rattle.clap.specs.Lexer.{usize_max}
 use Rattle.clap.specs.Words.{App, Rule, Text, new_rule, with_rule}
@@ -12,6 +12,13 @@ default_steps = 10 ^ 10
 
 abbrev pub most_steps : ℕ
 most_steps = 10 ^ 12
+
+-- the greatest cost of a meaning where the words don't say
+abbrev pub default_cost : ℕ
+default_cost = 10 ^ 9
+
+abbrev pub most_cost : ℕ
+most_cost = 10 ^ 12
 
 abbrev pub most_count : ℕ
 most_count = 2000
@@ -47,6 +54,14 @@ stats_rule = record (new_rule (codes "stats")) {
   parser = Some parser.Bool;
 }
 
+-- the option `--cost`
+abbrev pub cost_rule : Rule
+cost_rule = record (new_rule (codes "cost")) {
+  long = Some (codes "cost");
+  action = Some Set;
+  parser = Some (parser.Unsigned 1 most_cost);
+}
+
 -- the number that `demo` takes
 abbrev pub count_rule : Rule
 count_rule = record (new_rule (codes "count")) {
@@ -78,6 +93,9 @@ run_command =
 abbrev pub go_command : App
 go_command =
     with_rule (with_rule (with_rule (bare_command (codes "go")) steps_rule) stats_rule) (several_rule (codes "files"))
+
+abbrev pub mean_command : App
+mean_command = with_rule (with_rule (bare_command (codes "mean")) cost_rule) (several_rule (codes "files"))
 
 abbrev pub demo_command : App
 demo_command = with_rule (bare_command (codes "demo")) count_rule

@@ -2,14 +2,17 @@
 
 ghost use Rattle.std.specs.Prelude.{◌≡◌, IfOk, codes, false};
 ghost use Rattle.clap.specs.Words.{app_of, rule_of};
-ghost use Rattle.command_line.specs.Commands.{bare_command, output_rule, single_rule, several_rule, steps_rule, stats_rule, count_rule};
-ghost use Rattle.command_line.specs.Commands.{build_command, compile_command, link_command, run_command, go_command, demo_command};
+ghost use Rattle.command_line.specs.Commands.{bare_command, output_rule, single_rule, several_rule, steps_rule, stats_rule, cost_rule, count_rule};
+ghost use Rattle.command_line.specs.Commands.{build_command, compile_command, link_command, run_command, go_command, mean_command, demo_command};
 
 use clap::{Arg, ArgAction, Command, value_parser};
 use std::alloc::{AllocError, Global};
 
 /// The most instructions that `--steps` asks for.
 const MOST_STEPS: i64 = 1_000_000_000_000;
+
+/// The most that `--cost` asks for.
+const MOST_COST: i64 = 1_000_000_000_000;
 
 /// The most that `demo` takes.
 const MOST_COUNT: i64 = 2000;
@@ -61,6 +64,17 @@ fn stats<'a>(alloc: Global) -> Arg<'a>
         .long("stats")
         .action(ArgAction::SetTrue)
         .value_parser(value_parser!(bool))
+}
+
+/// The option `--cost` with a number from 1 to 10^12.
+fn cost<'a>(alloc: Global) -> Arg<'a>
+    ensures rule { rule_of result ≡ cost_rule }
+    ensures local { result.global ≡ false }
+{
+    Arg::new(alloc, "cost")
+        .long("cost")
+        .action(ArgAction::Set)
+        .value_parser(value_parser!(u64).range(1..=MOST_COST))
 }
 
 /// The positional of `demo`: a number from 1 to 2,000.
@@ -125,6 +139,15 @@ pub(crate) fn go_command<'a>(alloc: Global) -> Result<Command<'a>, AllocError>
     bare(alloc, "go")
         .arg(steps(alloc))?
         .arg(stats(alloc))?
+        .arg(several(alloc, "files"))
+}
+
+/// `mean [--cost K] FILE..`.
+pub(crate) fn mean_command<'a>(alloc: Global) -> Result<Command<'a>, AllocError>
+    ensures { IfOk result (λ command. app_of command ≡ mean_command) }
+{
+    bare(alloc, "mean")
+        .arg(cost(alloc))?
         .arg(several(alloc, "files"))
 }
 

@@ -4,7 +4,7 @@ ghost use Rattle.std.specs.Prelude.{◌≡◌, ◌≢◌, ◌<◌, ◌≤◌, []
 ghost use Rattle.std.specs.Option.{option_map_or};
 ghost use Rattle.clap.specs.Walk.{texts};
 ghost use Rattle.clap.specs.Words.{app_of, fault_of, found_of, first_value, matched_of, matches_of, one_text, raw_values, rows_of};
-ghost use Rattle.command_line.specs.Commands.{default_steps, most_count, most_steps};
+ghost use Rattle.command_line.specs.Commands.{default_cost, default_steps, most_cost, most_count, most_steps};
 ghost use Rattle.command_line.specs.Requests.{number_in};
 ghost use Rattle.command_line.specs.Matching.{AreRead, IsNumeralIn, IsSwitch, is_fit, is_switched_on};
 
@@ -16,6 +16,9 @@ use std::alloc::Global;
 
 /// How many instructions run at most where the words don't say.
 const DEFAULT_STEPS: u64 = 10_000_000_000;
+
+/// The greatest cost of a meaning where the words don't say.
+const DEFAULT_COST: u64 = 1_000_000_000;
 
 /// What clap reads of the words as this command, whose name is the first word. Usage comes only where clap finds a
 /// fault in the words.
@@ -71,6 +74,15 @@ pub(crate) fn steps_of(matches: &ArgMatches<'_>) -> u64
     ensures bounded { (0 < result) × (result ≤ most_steps) }
 {
     matches.get_one::<u64>("steps").unwrap_or(DEFAULT_STEPS)
+}
+
+/// The value of `--cost`, or the default.
+pub(crate) fn cost_of(matches: &ArgMatches<'_>) -> u64
+    requires { IsNumeralIn 1 most_cost (one_text (found_of matches.now) (codes "cost")) }
+    ensures value { result ≡ option_map_or number_in (one_text (found_of matches.now) (codes "cost")) default_cost }
+    ensures bounded { (0 < result) × (result ≤ most_cost) }
+{
+    matches.get_one::<u64>("cost").unwrap_or(DEFAULT_COST)
 }
 
 /// Whether `--stats` was used.

@@ -33,6 +33,11 @@ pub enum Request {
         stats: bool,
         files: Names,
     },
+    /// `mean [--cost K] FILE..`: the meaning of the files' program, up to a cost of at most so much.
+    Mean {
+        cost: u64,
+        files: Names,
+    },
     /// `demo N`: the demonstration of that number.
     Demo {
         count: u32,

@@ -1,5 +1,5 @@
-//! `fsc`: a memory-safe C90 compiler whose images run as C over blocks of bytes says. So far it reads one form of
-//! program, makes its image in memory and runs it, and it runs the images of all programs.
+//! `fsc`: a memory-safe C90 compiler whose images run as C over blocks of bytes says: `tool` of `fsc_tool` has what each
+//! command does.
 #![tactic(auto)]
 
 mod arguments;

@@ -4,14 +4,17 @@ use Rattle.std.specs.Fmt.{decimal}
 use Rattle.fsc_base.specs.Rule.{code_of}
 use Rattle.fsc_base.specs.declared.place.Place.{Place}
 use Rattle.fsc_base.specs.declared.rule.Rule.{Rule}
+use Rattle.c_link.specs.declared.fault.LinkFault.{LinkFault}
 use Rattle.elf_image.specs.declared.fault.ElfFault.{ElfFault}
 use Rattle.elf_image.specs.declared.fault.ElfFault.TheVariants as elf
+use Rattle.fat_code.specs.declared.fault.UnitFault.{UnitFault}
+use Rattle.fat_code.specs.declared.fault.UnitFault.TheVariants as unit
 use Rattle.rv_run.specs.declared.stop.TrapKind.{TrapKind}
 use Rattle.rv_run.specs.declared.stop.TrapKind.TheVariants as trap
 use Rattle.rv_run.specs.declared.stop.Stop.{Stop}
 use Rattle.rv_run.specs.declared.stop.Stop.TheVariants as stop
 use Rattle.fsc_ending.specs.declared.ending.Ending.{Ending}
-use Rattle.fsc_ending.specs.declared.ending.Ending.TheVariants.{Exited, Stopped, OutOfStorage, StepsUsed, Usage, MissingFile, FileFault, ReadFault, WriteFault, NoteFault, Rejected, BadImage, Trap, NotBuilt, NoMemory}
+use Rattle.fsc_ending.specs.declared.ending.Ending.TheVariants.{Exited, Stopped, OutOfStorage, StepsUsed, CostUsed, Usage, MissingFile, FileFault, ReadFault, WriteFault, NoteFault, Rejected, LinkRefused, BadUnit, BadImage, Trap, NotBuilt, NoMemory}
 use Rattle.fsc_ending.specs.declared.ending.StopKind.{StopKind}
 use Rattle.fsc_ending.specs.declared.ending.StopKind.TheVariants.{Access, Call, Divide, Abort, ReadOnly}
 use Rattle.fsc_ending.specs.declared.ending.Storage.{Storage}
@@ -57,6 +60,7 @@ status_of (Exited status) = status
 status_of (Stopped kind block offset width) = 120
 status_of (OutOfStorage storage) = 121
 status_of (StepsUsed n) = 122
+status_of (CostUsed cost) = 115
 status_of Usage = 125
 status_of (MissingFile name) = 126
 status_of (FileFault name) = 126
@@ -64,6 +68,8 @@ status_of ReadFault = 127
 status_of WriteFault = 127
 status_of NoteFault = 127
 status_of (Rejected rule place name) = 123
+status_of (LinkRefused fault) = 124
+status_of (BadUnit name fault offset) = 119
 status_of (BadImage fault offset) = 119
 status_of (Trap kind pc) = 118
 status_of (NotBuilt form) = 116
@@ -100,6 +106,16 @@ fault_name elf.Machine = codes "Machine"
 fault_name elf.Header = codes "Header"
 fault_name elf.Segment = codes "Segment"
 
+abbrev pub unit_fault_name : UnitFault → List ℕ
+unit_fault_name unit.Short = codes "Short"
+unit_fault_name unit.Magic = codes "Magic"
+unit_fault_name unit.Version = codes "Version"
+unit_fault_name unit.Tag = codes "Tag"
+unit_fault_name unit.Index = codes "Index"
+unit_fault_name unit.Limit = codes "Limit"
+unit_fault_name unit.Height = codes "Height"
+unit_fault_name unit.Trailing = codes "Trailing"
+
 abbrev pub trap_name : TrapKind → List ℕ
 trap_name trap.Misaligned = codes "Misaligned"
 trap_name trap.Fetch = codes "Fetch"
@@ -117,12 +133,25 @@ numbered text n = text ++ (codes " " ++ decimal n)
 abbrev pub rejection : Rule → Place → (file : List ℕ) → List ℕ
 rejection rule at file = file ++ (codes ":" ++ (decimal at.line ++ (codes ": " ++ code_of rule)))
 
+-- what more is told of a fault of linking, where there is something
+abbrev pub link_texts : (first second : List ℕ) → List ℕ
+link_texts [] [] = []
+link_texts first second = codes ": " ++ (first ++ (codes " / " ++ second))
+
+-- the rule of linking that is broken, the name for which it is, and what more is told
+abbrev pub link_line : LinkFault → List ℕ
+link_line fault = codes "link " ++ (code_of fault.rule ++ (codes " " ++ (fault.name ++ link_texts fault.first fault.second)))
+
+abbrev pub bad_unit_line : (name : List ℕ) → UnitFault → (offset : ℕ) → List ℕ
+bad_unit_line name fault offset = numbered (codes "bad unit " ++ (name ++ (codes " " ++ unit_fault_name fault))) offset
+
 -- the line on standard error, where there is one
 abbrev pub note_of : Ending → List ℕ
 note_of (Exited status) = []
 note_of (Stopped kind block offset width) = line (stop_text kind block offset width)
 note_of (OutOfStorage storage) = line (storage_text storage)
 note_of (StepsUsed n) = line (numbered (codes "steps") n)
+note_of (CostUsed cost) = line (numbered (codes "cost") cost)
 note_of Usage = line (codes "usage")
 note_of (MissingFile name) = line (codes "missing " ++ name)
 note_of (FileFault name) = line (codes "fault " ++ name)
@@ -130,6 +159,8 @@ note_of ReadFault = line (codes "fault input")
 note_of WriteFault = line (codes "fault output")
 note_of NoteFault = []
 note_of (Rejected rule at name) = line (rejection rule at name)
+note_of (LinkRefused fault) = line (link_line fault)
+note_of (BadUnit name fault offset) = line (bad_unit_line name fault offset)
 note_of (BadImage fault offset) = line (numbered (codes "bad image " ++ fault_name fault) offset)
 note_of (Trap kind pc) = line (numbered (codes "trap " ++ trap_name kind) pc)
 note_of (NotBuilt form) = line (codes "not built")

@@ -1,7 +1,7 @@
 -- What sort of answer an ending is.
 use Rattle.std.specs.Prelude.{◌≡◌, ◌⊎◌}
 use Rattle.fsc_ending.specs.declared.ending.Ending.{Ending}
-use Rattle.fsc_ending.specs.declared.ending.Ending.TheVariants.{Exited, Stopped, OutOfStorage, StepsUsed, Usage, MissingFile, FileFault, ReadFault, WriteFault, NoteFault, Rejected, BadImage, Trap, NotBuilt, NoMemory}
+use Rattle.fsc_ending.specs.declared.ending.Ending.TheVariants.{Exited, Stopped, OutOfStorage, StepsUsed, CostUsed, Usage, MissingFile, FileFault, ReadFault, WriteFault, NoteFault, Rejected, LinkRefused, BadUnit, BadImage, Trap, NotBuilt, NoMemory}
 
 -- A run stopped so; nothing ran, for a cause in the words, in the files or in their texts; nothing ran, since a file is no
 -- image; a line of notes could not be written; or memory was refused.
@@ -17,6 +17,7 @@ sort_of (Exited status) = ran
 sort_of (Stopped kind block offset width) = ran
 sort_of (OutOfStorage storage) = ran
 sort_of (StepsUsed n) = ran
+sort_of (CostUsed cost) = ran
 sort_of Usage = refused
 sort_of (MissingFile name) = refused
 sort_of (FileFault name) = refused
@@ -24,6 +25,8 @@ sort_of ReadFault = ran
 sort_of WriteFault = ran
 sort_of NoteFault = unnoted
 sort_of (Rejected rule place name) = refused
+sort_of (LinkRefused fault) = refused
+sort_of (BadUnit name fault offset) = refused
 sort_of (BadImage fault offset) = malformed
 sort_of (Trap kind pc) = ran
 sort_of (NotBuilt form) = refused

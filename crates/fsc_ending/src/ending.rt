@@ -3,7 +3,9 @@
 ghost use Rattle.std.specs.Prelude.{◌≡◌};
 ghost use Rattle.fsc_ending.specs.Ending.{status_of, ending_of, stopped_as};
 
+use c_link::LinkFault;
 use elf_image::ElfFault;
+use fat_code::UnitFault;
 use fsc_base::{Name, Place, Rule};
 use rv_run::{Stop, TrapKind};
 
@@ -57,6 +59,8 @@ pub enum Ending {
     OutOfStorage(Storage),
     /// As many instructions ran as were asked for, without an end.
     StepsUsed(u64),
+    /// The meaning of the program has no end at this cost.
+    CostUsed(u64),
     /// There are no words or more than 1,000, a word is not UTF-8, or no command takes them.
     Usage,
     /// There is no file of that name.
@@ -75,6 +79,14 @@ pub enum Ending {
         place: Place,
         file: Name,
     },
+    /// Units that each are taken make no program.
+    LinkRefused(LinkFault),
+    /// The file of that name is no unit file: its first fault, and where in the file, in bytes.
+    BadUnit {
+        name: Name,
+        fault: UnitFault,
+        offset: u32,
+    },
     /// The file is no image: its first fault, and where in the file, in bytes.
     BadImage {
         fault: ElfFault,
@@ -92,7 +104,7 @@ pub enum Ending {
 }
 
 /// The exit status of the program after that ending: the number that the program that was run exited with, or one from
-/// 116 to 127.
+/// 115 to 127.
 pub fn status(ending: &Ending) -> u8
     ensures { result ≡ status_of ending.now }
 {
@@ -101,11 +113,13 @@ pub fn status(ending: &Ending) -> u8
         Ending::Stopped { .. } => 120,
         Ending::OutOfStorage(_) => 121,
         Ending::StepsUsed(_) => 122,
+        Ending::CostUsed(_) => 115,
         Ending::Usage => 125,
         Ending::MissingFile(_) | Ending::FileFault(_) => 126,
         Ending::ReadFault | Ending::WriteFault | Ending::NoteFault => 127,
         Ending::Rejected { .. } => 123,
-        Ending::BadImage { .. } => 119,
+        Ending::LinkRefused(_) => 124,
+        Ending::BadUnit { .. } | Ending::BadImage { .. } => 119,
         Ending::Trap { .. } => 118,
         Ending::NotBuilt(_) => 116,
         Ending::NoMemory => 117,

@@ -4,12 +4,14 @@ ghost use Rattle.std.specs.Prelude.{◌≡◌, ◌≢◌, ◌++◌, ◌<◌, ◌
 ghost use Rattle.std.specs.Fmt.{decimal};
 ghost use Rattle.fsc_outside.specs.Counts.{Rose};
 ghost use Rattle.fsc_outside.specs.Streams.{Appends, AppendsPart};
-ghost use Rattle.fsc_ending.specs.Ending.{line, place, extent, stop_text, storage_text, fault_name, trap_name, numbered, rejection, note_of, marks_line};
+ghost use Rattle.fsc_ending.specs.Ending.{line, place, extent, stop_text, storage_text, fault_name, trap_name, unit_fault_name, numbered, rejection, link_texts, link_line, bad_unit_line, note_of, marks_line};
 ghost use Rattle.fsc_ending.specs.Reporting.{IsReported};
 
 use crate::ending::{Ending, StopKind, Storage};
+use c_link::LinkFault;
 use elf_image::ElfFault;
-use fsc_base::{Name, NoMemory, Place, Rule};
+use fat_code::UnitFault;
+use fsc_base::{Bytes, Name, NoMemory, Place, Rule};
 use fsc_outside::{Sink, Wrote, write_whole};
 use rv_run::TrapKind;
 use std::alloc::Global;
@@ -148,6 +150,63 @@ fn bad_image_text(alloc: Global, fault: ElfFault, offset: u32) -> Result<Vec<u8>
     numbered(alloc, &text, u64::from(offset))
 }
 
+/// The name of a fault of a unit file.
+fn unit_fault_name(fault: UnitFault) -> &'static [u8]
+    ensures { result.now ≡ unit_fault_name fault }
+{
+    match fault {
+        UnitFault::Short => b"Short",
+        UnitFault::Magic => b"Magic",
+        UnitFault::Version => b"Version",
+        UnitFault::Tag => b"Tag",
+        UnitFault::Index => b"Index",
+        UnitFault::Limit => b"Limit",
+        UnitFault::Height => b"Height",
+        UnitFault::Trailing => b"Trailing",
+    }
+}
+
+/// The words of a fault of a unit file: the file, the fault, and where it is.
+fn bad_unit_text(
+    alloc: Global,
+    name: &Name,
+    fault: UnitFault,
+    offset: u32,
+) -> Result<Vec<u8>, NoMemory>
+    ensures { IfOk result (λ made. made.items ≡ bad_unit_line name.now fault offset) }
+{
+    let mut text = joined(alloc, b"bad unit ", name.as_slice())?;
+    text.extend_from_slice(b" ")?;
+    text.extend_from_slice(unit_fault_name(fault))?;
+    numbered(alloc, &text, u64::from(offset))
+}
+
+/// Adds what more is told of a fault of linking, if there is something.
+fn add_texts(line: &mut Vec<u8>, first: &Bytes, second: &Bytes) -> Result<(), NoMemory>
+    ensures { OnOk result (line.new.items ≡ line.old.items ++ link_texts first.now second.now) }
+{
+    if first.as_slice().is_empty() && second.as_slice().is_empty() {
+        return Ok(());
+    }
+    line.extend_from_slice(b": ")?;
+    line.extend_from_slice(first.as_slice())?;
+    line.extend_from_slice(b" / ")?;
+    line.extend_from_slice(second.as_slice())?;
+    Ok(())
+}
+
+/// The words of a fault of linking: the rule, the name, and what more is told.
+fn link_text(alloc: Global, fault: &LinkFault) -> Result<Vec<u8>, NoMemory>
+    ensures { IfOk result (λ made. made.items ≡ link_line fault.now) }
+{
+    let mut text = Vec::from_slice(alloc, b"link ")?;
+    text.extend_from_slice(&fault.rule.code())?;
+    text.extend_from_slice(b" ")?;
+    text.extend_from_slice(fault.name.as_slice())?;
+    add_texts(&mut text, &fault.first, &fault.second)?;
+    Ok(text)
+}
+
 /// The words of a trap, and where it came.
 fn trap_text(alloc: Global, kind: TrapKind, pc: u32) -> Result<Vec<u8>, NoMemory>
     ensures { IfOk result (λ made. made.items ≡ numbered (codes "trap " ++ trap_name kind) pc) }
@@ -198,12 +257,19 @@ fn note(alloc: Global, ending: &Ending) -> Result<Vec<u8>, NoMemory>
         } => stop_text_of(alloc, *kind, *block, *offset, *width)?,
         Ending::OutOfStorage(storage) => joined(alloc, storage_text(*storage), b"")?,
         Ending::StepsUsed(n) => numbered(alloc, b"steps", *n)?,
+        Ending::CostUsed(cost) => numbered(alloc, b"cost", *cost)?,
         Ending::Usage => joined(alloc, b"usage", b"")?,
         Ending::MissingFile(name) => joined(alloc, b"missing ", name.as_slice())?,
         Ending::FileFault(name) => joined(alloc, b"fault ", name.as_slice())?,
         Ending::ReadFault => joined(alloc, b"fault input", b"")?,
         Ending::WriteFault => joined(alloc, b"fault output", b"")?,
         Ending::Rejected { rule, place, file } => rejection_text(alloc, *rule, place, file)?,
+        Ending::LinkRefused(fault) => link_text(alloc, fault)?,
+        Ending::BadUnit {
+            name,
+            fault,
+            offset,
+        } => bad_unit_text(alloc, name, *fault, *offset)?,
         Ending::BadImage { fault, offset } => bad_image_text(alloc, *fault, *offset)?,
         Ending::Trap { kind, pc } => trap_text(alloc, *kind, *pc)?,
         Ending::NotBuilt(_) => joined(alloc, b"not built", b"")?,

@@ -1,5 +1,7 @@
 mod Asking
 mod Causes
+mod Demonstrations
+mod Files
 mod Jobs
 mod Names
 mod Performing

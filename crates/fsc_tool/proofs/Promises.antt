@@ -1,5 +1,5 @@
 -- What the run of an image that is a job's says of every job that is asked for.
-use Rattle.std.proofs.Common.{◌≡◌, ◌≢◌, ℕ, ◌+◌, ◌*◌, ◌<◌, ◌≤◌, ◌⊎◌, inl, inr, List, length, take, Option, refl, sym, ap, subst, ◌∙◌, arith}
+use Rattle.std.proofs.Common.{◌≡◌, ◌≢◌, ℕ, ◌+◌, ◌*◌, ◌<◌, ◌≤◌, ◌⊎◌, inl, inr, List, [], ◌∷◌, length, take, Option, refl, sym, ap, subst, ◌∙◌, arith}
 use Rattle.std.specs.Prelude.{IsSome}
 use Rattle.std.proofs.lemmas.Bool.{cases_lt}
 use Rattle.std.proofs.lemmas.List.{take-take, length-take}
@@ -11,13 +11,16 @@ use Rattle.rv_run.specs.declared.stop.Stop.TheVariants as stop
 use Rattle.rv_run.specs.ImageRun.{ImageRun, Streams, image_run, given_of}
 use Rattle.rv_run.specs.Machine.{start_of}
 use Rattle.plain_text.specs.declared.program.Program.{Program}
+use Rattle.command_line.specs.Requests.{Listed}
+use Rattle.command_line.specs.declared.request.Request.TheVariants as request
 use Rattle.fsc_ending.specs.declared.ending.Ending.{Ending}
 use Rattle.fsc_ending.specs.declared.ending.Ending.TheVariants.{Exited, StepsUsed}
 use Rattle.fsc_ending.specs.Reporting.{IsUnless}
 use Rattle.fsc_ending.specs.Sort.{ran, refused, sort_of, IsOfSort}
-use Rattle.fsc_go.proofs.Going.{Answers, exits, bound, cut, answers}
-use Rattle.fsc_tool.specs.Tool.{Job, IsAsked, IsImageRun, IsRunOf, none_ran, image_ran, job_ran, AppendsAtLeast}
-use Rattle.fsc_tool.proofs.Asking.{one_job, not_both}
+use Rattle.fsc_commands.proofs.Going.{Answers, exits, bound, cut, answers}
+use Rattle.fsc_tool.specs.Words.{NamesToWrite}
+use Rattle.fsc_tool.specs.Tool.{Job, IsAsked, IsImageRun, IsRunOf, none_ran, image_ran, job_ran, files_ran, file_written, meaning_followed, demo_ran, AppendsAtLeast}
+use Rattle.fsc_tool.proofs.Asking.{one_job, not_both, writes_none, not_go}
 use Rattle.fsc_tool.proofs.Reporting.{is_said}
 
 -- ---- lists
@@ -59,8 +62,19 @@ no_image_run : (said : Ending) (marks : Option ℕ) (words : List (List ℕ)) (t
     → IsAsked words told job → IsImageRun said marks words told kept before after → ⊥
 no_image_run said marks words told kept before after job asked run = not_both words job.file run.file job.steps run.steps run.stats asked.request run.request
 
+-- words that ask for a job ask for no file to be written, for no meaning and for no demonstration
+no_file : (words : List (List ℕ)) (told : Option FileMap) (job : Job) (name : List ℕ) → IsAsked words told job → NamesToWrite words name → ⊥
+no_file words told job name asked names =
+    writes_none words name (request.Go job.steps asked.request.0 (job.file ∷ [])) asked.request.1 refl names
+
+no_meaning : (words files : List (List ℕ)) (told : Option FileMap) (job : Job) (cost : ℕ) → IsAsked words told job → Listed words (request.Mean cost files) → ⊥
+no_meaning words files told job cost asked asks = not_go words (request.Mean cost files) job.file job.steps asks asked.request (λ same. cc)
+
+no_demo : (words : List (List ℕ)) (told : Option FileMap) (job : Job) (count : ℕ) → IsAsked words told job → Listed words (request.Demo count) → ⊥
+no_demo words told job count asked asks = not_go words (request.Demo count) job.file job.steps asks asked.request (λ same. cc)
+
 -- the ending of a run is no refusal
-not_refused : (said wanted : Ending) → IsOfSort refused said → said ≡ wanted → sort_of wanted ≡ ran → ⊥
+pub not_refused : (said wanted : Ending) → IsOfSort refused said → said ≡ wanted → sort_of wanted ≡ ran → ⊥
 not_refused said wanted (inl is) same run = let s : sort_of said ≡ ran = ap sort_of same ∙ run in cc
 not_refused said wanted (inr is) same run = let s : sort_of said ≡ ran = ap sort_of same ∙ run in let m = ap sort_of is in cc
 
@@ -74,6 +88,12 @@ pub prefix : (made : Option Image) (said : Ending) (marks : Option ℕ) (words :
     → IsRunOf made said marks words told kept before after → (job : Job) → IsSome told → IsAsked words told job → AppendsFront before.written after.written job.program.bytes
 prefix made said marks words told kept before after (none_ran none refusal nothing) job is_told asked = nothing_is_front before after job.program.bytes nothing.2
 prefix made said marks words told kept before after (image_ran none run) job is_told asked = absurd (no_image_run said marks words told kept before after job asked run)
+prefix made said marks words told kept before after (files_ran image is run) job is_told asked = absurd (run.apart job is_told asked)
+prefix made said marks words told kept before after (file_written none is name names nothing) job is_told asked = absurd (no_file words told job name asked names)
+prefix made said marks words told kept before after (meaning_followed none files cost asks unmarked meant) job is_told asked =
+    absurd (no_meaning words files told job cost asked asks)
+prefix made said marks words told kept before after (demo_ran image sound is count ended between asks unmarked left run closes unread) job is_told asked =
+    absurd (no_demo words told job count asked asks)
 prefix made said marks words told kept before after (job_ran image is other other_asked writes run not_read left) job is_told asked =
     let same = one_job words told other job is_told other_asked asked in
     let given = given_of before.left in
@@ -96,6 +116,13 @@ exited ending made said marks words told kept before after report (none_ran none
     absurd (not_refused said (Exited status) refusal (is_said said ending (Exited status) report is (λ e. cc) (λ e. cc)) refl)
 exited ending made said marks words told kept before after report (image_ran none run) job status is_told asked is =
     absurd (no_image_run said marks words told kept before after job asked run)
+exited ending made said marks words told kept before after report (files_ran image made_is run) job status is_told asked is = absurd (run.apart job is_told asked)
+exited ending made said marks words told kept before after report (file_written none done name names nothing) job status is_told asked is =
+    absurd (no_file words told job name asked names)
+exited ending made said marks words told kept before after report (meaning_followed none files cost asks unmarked meant) job status is_told asked is =
+    absurd (no_meaning words files told job cost asked asks)
+exited ending made said marks words told kept before after report (demo_ran image sound made_is count ended between asks unmarked left run closes unread) job status is_told asked is =
+    absurd (no_demo words told job count asked asks)
 exited ending made said marks words told kept before after report (job_ran image made_is other other_asked writes run not_read left) job status is_told asked is =
     let same = one_job words told other job is_told other_asked asked in
     let given = given_of before.left in
@@ -121,6 +148,13 @@ steps_used ending made said marks words told kept before after report (none_ran 
     absurd (not_refused said (StepsUsed n) refusal (is_said said ending (StepsUsed n) report is (λ e. cc) (λ e. cc)) refl)
 steps_used ending made said marks words told kept before after report (image_ran none run) job n is_told asked is =
     absurd (no_image_run said marks words told kept before after job asked run)
+steps_used ending made said marks words told kept before after report (files_ran image made_is run) job n is_told asked is = absurd (run.apart job is_told asked)
+steps_used ending made said marks words told kept before after report (file_written none done name names nothing) job n is_told asked is =
+    absurd (no_file words told job name asked names)
+steps_used ending made said marks words told kept before after report (meaning_followed none files cost asks unmarked meant) job n is_told asked is =
+    absurd (no_meaning words files told job cost asked asks)
+steps_used ending made said marks words told kept before after report (demo_ran image sound made_is count ended between asks unmarked left run closes unread) job n is_told asked is =
+    absurd (no_demo words told job count asked asks)
 steps_used ending made said marks words told kept before after report (job_ran image made_is other other_asked writes run not_read left) job n is_told asked is =
     let same = one_job words told other job is_told other_asked asked in
     let given = given_of before.left in

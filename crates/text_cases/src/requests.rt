@@ -51,6 +51,7 @@ fn line_of(alloc: Global, request: &Request) -> Result<String, AllocError> {
             stats,
             files,
         } => joined(format!(in alloc; "go {steps} {stats}")?, files),
+        Request::Mean { cost, files } => joined(format!(in alloc; "mean {cost}")?, files),
         Request::Demo { count } => format!(in alloc; "demo {count}"),
     }
 }

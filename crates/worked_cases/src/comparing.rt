@@ -122,7 +122,23 @@ fn compare_files(
             differences.compare_file(name, outcome.files.get(name), bytes)?;
         }
     }
+    for (one, other) in worked.wanted.same.iter() {
+        compare_same(differences, outcome, one, other)?;
+    }
     Ok(())
+}
+
+/// Notes where two files hold different bytes, or one of them is not there.
+fn compare_same(
+    differences: &mut Differences,
+    outcome: &Outcome,
+    one: &Name,
+    other: &Name,
+) -> Result<(), AllocError> {
+    match (outcome.files.get(one), outcome.files.get(other)) {
+        (Some(found), Some(wanted)) => differences.compare("same", found, wanted),
+        _ => differences.compare("same", b"no file", b"two files"),
+    }
 }
 
 /// The beginning of some bytes as a text.

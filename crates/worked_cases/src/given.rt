@@ -16,6 +16,8 @@ pub struct Failing {
 /// What a case hands to the tool.
 #[derive(Debug, Drop)]
 pub struct Given {
+    /// The words of calls that come before, over the same files.
+    pub first: Vec<Vec<Name>>,
     pub words: Vec<Name>,
     pub files: Vec<(Name, Bytes)>,
     pub input: Vec<u8>,
@@ -28,6 +30,7 @@ impl Given {
     /// No words, no files and no input, where no call fails.
     pub fn new(alloc: Global) -> Given {
         Given {
+            first: Vec::new(alloc),
             words: Vec::new(alloc),
             files: Vec::new(alloc),
             input: Vec::new(alloc),
@@ -41,17 +44,15 @@ impl Given {
         }
     }
 
-    /// Puts the words of the field behind the others: those of its line and its bytes together, parted by single spaces.
+    /// Puts the words of the field behind the others.
     pub fn take_words(&mut self, alloc: Global, field: &Field) -> Result<(), CaseNo> {
-        let mut text = field.head_bytes(alloc)?;
-        text.extend_from_slice(&field.body)?;
-        if text.is_empty() {
-            return Ok(());
-        }
-        for word in text.split(|byte| *byte == b' ') {
-            self.words.push(copied(alloc, word)?)?;
-        }
-        Ok(())
+        let mut words = words_of(alloc, field)?;
+        Ok(self.words.append(&mut words)?)
+    }
+
+    /// Takes the words of a call that comes before, behind those of the calls before it.
+    pub fn take_first(&mut self, alloc: Global, field: &Field) -> Result<(), CaseNo> {
+        Ok(self.first.push(words_of(alloc, field)?)?)
     }
 
     /// Takes the numbers of failing calls, behind the name of what fails.
@@ -83,6 +84,20 @@ impl Given {
             }
         }
     }
+}
+
+/// The words of a field: those of its line and its bytes together, parted by single spaces.
+fn words_of(alloc: Global, field: &Field) -> Result<Vec<Name>, CaseNo> {
+    let mut text = field.head_bytes(alloc)?;
+    text.extend_from_slice(&field.body)?;
+    let mut words = Vec::new(alloc);
+    if text.is_empty() {
+        return Ok(words);
+    }
+    for word in text.split(|byte| *byte == b' ') {
+        words.push(copied(alloc, word)?)?;
+    }
+    Ok(words)
 }
 
 /// A copy of bytes.

@@ -1,9 +1,9 @@
 //! Running the tool over objects in memory.
 
 use crate::given::Given;
-use fsc_base::{Image, NoMemory, Segments};
+use fsc_base::{Image, Name, NoMemory, Segments};
 use fsc_outside::{MemFiles, MemSink, MemSource, Source, Took};
-use fsc_tool::{Ending, tool};
+use fsc_tool::{Ending, status, tool};
 use std::alloc::Global;
 
 /// What a call of the tool left.
@@ -17,10 +17,49 @@ pub struct Outcome {
     pub made: Option<Image>,
 }
 
-/// Calls the tool on what a case gives. An image that was in `made` before has to go.
+impl Outcome {
+    /// Whether a call that comes before a case's own went well: it exited with 0, and wrote nothing but files.
+    fn is_well(&self) -> bool {
+        status(&self.ending) == 0 && self.output.bytes().is_empty() && self.notes.bytes().is_empty()
+    }
+
+    /// The files that it left.
+    fn into_files(self) -> MemFiles {
+        let Outcome {
+            ending: _,
+            output: _,
+            notes: _,
+            left: _,
+            files,
+            made: _,
+        } = self;
+        files
+    }
+}
+
+/// Calls the tool on what a case gives, behind the calls that come before, each over the files that the one before left. Where one of
+/// these did not go well, what it left is the outcome.
 pub fn run(alloc: Global, given: &Given) -> Result<Outcome, NoMemory> {
+    let mut files = MemFiles::new(alloc, &given.files, &given.failing.files)?;
+    for words in given.first.iter() {
+        let outcome = call(alloc, given, words, files)?;
+        if !outcome.is_well() {
+            return Ok(outcome);
+        }
+        files = outcome.into_files();
+    }
+    call(alloc, given, &given.words, files)
+}
+
+/// Calls the tool with these words over files, with the input that a case gives. An image that was in `made` before has to go.
+fn call(
+    alloc: Global,
+    given: &Given,
+    words: &[Name],
+    files: MemFiles,
+) -> Result<Outcome, NoMemory> {
     let failing = &given.failing;
-    let mut files = MemFiles::new(alloc, &given.files, &failing.files)?;
+    let mut files = files;
     let mut input = source(alloc, &given.input, &failing.input, given.most)?;
     let mut output = sink(alloc, &failing.output, given.most)?;
     let mut notes = sink(alloc, &failing.notes, given.most)?;
@@ -30,7 +69,7 @@ pub fn run(alloc: Global, given: &Given) -> Result<Outcome, NoMemory> {
     });
     let ending = tool(
         alloc,
-        &given.words,
+        words,
         &mut files,
         &mut input,
         &mut output,

@@ -1,5 +1,7 @@
 //! What must come of a case.
 
+use crate::given::copied;
+use case_file::{CaseNo, Field};
 use fsc_base::{Bytes, Name};
 use std::alloc::{AllocError, Global};
 
@@ -18,6 +20,8 @@ pub struct Wanted {
     pub left: Option<Vec<u8>>,
     /// What these files hold afterwards. The others that were given hold what they held.
     pub files: Vec<(Name, Bytes)>,
+    /// Pairs of files that hold the same bytes afterwards.
+    pub same: Vec<(Name, Name)>,
     /// Whether an image is left that was made of the text.
     pub made: bool,
 }
@@ -32,7 +36,20 @@ impl Wanted {
             notes: Vec::new(alloc),
             left: None,
             files: Vec::new(alloc),
+            same: Vec::new(alloc),
             made: false,
+        }
+    }
+
+    /// Takes the names of two files, parted by a space.
+    pub fn take_same(&mut self, alloc: Global, field: &Field) -> Result<(), CaseNo> {
+        match field.head.as_str().split_once(' ') {
+            Some((one, other)) => {
+                let one = copied(alloc, one.as_bytes())?;
+                let other = copied(alloc, other.as_bytes())?;
+                Ok(self.same.push((one, other))?)
+            }
+            None => Err(field.malformed("no two names")),
         }
     }
 

@@ -47,6 +47,7 @@ impl Worked {
     /// Takes a field.
     fn take(&mut self, alloc: Global, field: Field) -> Result<(), CaseNo> {
         match field.name.as_str() {
+            "first" => self.given.take_first(alloc, &field),
             "words" => self.given.take_words(alloc, &field),
             "fail" => self.given.take_failing(&field),
             "slow" => self.given.take_most(&field),
@@ -74,6 +75,7 @@ impl Worked {
             "notes" => self.wanted.notes.extend_from_slice(&field.body)?,
             "left" => self.wanted.left = Some(body(field)),
             "wrote" => self.wanted.files.push(named(alloc, field)?)?,
+            "same" => self.wanted.take_same(alloc, &field)?,
             "made" => self.wanted.made = true,
             _ => return Err(field.malformed("no field of a case")),
         }

@@ -1,0 +1,6 @@
+mod Demonstrations
+pub mod Endings
+pub mod Fronting
+pub mod Going
+pub mod Outcomes
+mod Refusals

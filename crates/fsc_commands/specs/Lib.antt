@@ -1,0 +1,7 @@
+pub mod Demonstrating
+pub mod Ends
+pub mod Finding
+pub mod Going
+pub mod Meaning
+pub mod Refusing
+pub mod Writing
