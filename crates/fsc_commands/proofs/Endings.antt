@@ -22,14 +22,14 @@ end_sorted end.Abort = refl
 end_sorted end.Blocks = refl
 end_sorted end.Depth = refl
 
--- what a meaning's ending is: a run's, or a text that is not built, which fits nowhere in a program
-pub sorted : (said : Ending) (cost : ℕ) → IsMeant said cost → IsOfSort ran said ⊎ (said ≡ ending.NotBuilt Text)
+-- what a meaning's ending is: a run's; or a text that is not built, which fits nowhere in a program; or the bound
+pub sorted : (said : Ending) (cost : ℕ) → IsMeant said cost → IsOfSort ran said ⊎ ((said ≡ ending.NotBuilt Text) ⊎ (said ≡ ending.CostUsed cost))
 sorted said cost (meant.Ended e, is) = inl (inl (ap sort_of is ∙ end_sorted e))
-sorted said cost (meant.Cost, is) = inl (inl (ap sort_of is))
+sorted said cost (meant.Cost, is) = inr (inr is)
 sorted said cost (meant.ReadFault, is) = inl (inl (ap sort_of is))
 sorted said cost (meant.WriteFault, is) = inl (inl (ap sort_of is))
 sorted said cost (meant.NoMemory, is) = inl (inr is)
-sorted said cost (meant.Misfit, is) = inr is
+sorted said cost (meant.Misfit, is) = inr (inl is)
 
 end_costless : (e : End) (k : ℕ) → ending_of_end e ≡ ending.CostUsed k → ⊥
 end_costless (end.Exit status) k is = cc

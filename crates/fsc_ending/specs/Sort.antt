@@ -3,10 +3,11 @@ use Rattle.std.specs.Prelude.{◌≡◌, ◌⊎◌}
 use Rattle.fsc_ending.specs.declared.ending.Ending.{Ending}
 use Rattle.fsc_ending.specs.declared.ending.Ending.TheVariants.{Exited, Stopped, OutOfStorage, StepsUsed, CostUsed, Usage, MissingFile, FileFault, ReadFault, WriteFault, NoteFault, Rejected, LinkRefused, BadUnit, BadImage, Trap, NotBuilt, NoMemory}
 
--- A run stopped so; nothing ran, for a cause in the words, in the files or in their texts; nothing ran, since a file is no
--- image; a line of notes could not be written; or memory was refused.
+-- A run stopped so; a meaning was followed to its bound; nothing ran, for a cause in the words, in the files or in their texts; nothing
+-- ran, since a file is no image; a line of notes could not be written; or memory was refused.
 pub data Sort : Type 0 where
   ran : Sort
+  followed : Sort
   refused : Sort
   malformed : Sort
   unnoted : Sort
@@ -17,7 +18,7 @@ sort_of (Exited status) = ran
 sort_of (Stopped kind block offset width) = ran
 sort_of (OutOfStorage storage) = ran
 sort_of (StepsUsed n) = ran
-sort_of (CostUsed cost) = ran
+sort_of (CostUsed cost) = followed
 sort_of Usage = refused
 sort_of (MissingFile name) = refused
 sort_of (FileFault name) = refused

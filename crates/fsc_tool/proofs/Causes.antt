@@ -14,10 +14,10 @@ use Rattle.command_line.specs.Requests.{IsUsable, Listed}
 use Rattle.command_line.specs.declared.request.Request.{Request}
 use Rattle.command_line.specs.declared.request.Request.TheVariants as request
 use Rattle.fsc_ending.specs.declared.ending.Ending.{Ending}
-use Rattle.fsc_ending.specs.declared.ending.Ending.TheVariants.{Exited, Usage, MissingFile, FileFault, Rejected, LinkRefused, BadUnit, BadImage, NotBuilt, NoMemory}
+use Rattle.fsc_ending.specs.declared.ending.Ending.TheVariants.{Exited, CostUsed, Usage, MissingFile, FileFault, Rejected, LinkRefused, BadUnit, BadImage, NotBuilt, NoMemory}
 use Rattle.fsc_ending.specs.declared.ending.Form.TheVariants.{Command, Text}
 use Rattle.fsc_ending.specs.Reporting.{IsUnless}
-use Rattle.fsc_ending.specs.Sort.{ran, refused, malformed, sort_of, IsOfSort}
+use Rattle.fsc_ending.specs.Sort.{ran, followed, refused, malformed, sort_of, IsOfSort}
 use Rattle.c_link.specs.declared.fault.LinkFault.{LinkFault}
 use Rattle.fat_code.specs.declared.fault.UnitFault.{UnitFault}
 use Rattle.unit_file.specs.Units.{IsFault}
@@ -31,7 +31,7 @@ use Rattle.fsc_commands.specs.Refusing.{IsNoProgram, IsRejection, RefusesNames, 
 use Rattle.fsc_commands.specs.Going.{program_unmade, program_ran, RunsFile, files_refused, files_ran, file_unread, file_ran, file_built}
 use Rattle.fsc_commands.specs.Writing.{Writes, written, unwritten, unheld as write_unheld, files_refused as nothing_built, image_written, file_refused as nothing_compiled, unit_written, no_unit, unit_unheld, RefusesLink, unit_unread, unit_bad, units_refused, link_refused as link_none, link_written}
 use Rattle.fsc_commands.specs.Meaning.{files_refused as meaning_refused, meaning_followed}
-use Rattle.fsc_commands.proofs.Endings.{sorted}
+use Rattle.fsc_commands.proofs.Endings.{sorted, cost_named}
 use Rattle.fsc_commands.specs.Demonstrating.{Closes, line_written, line_cut, no_line}
 use Rattle.fsc_tool.specs.Words.{AsksRun, AsksUnit, IsOfTexts, IsOfUnits, IsOfProgram, reads_of, NamesToRead, NamesToWrite, MayTouch}
 use Rattle.fsc_tool.specs.Performing.{RefusesWords, unusable, words_unheld, Performed, words_refused, file_asked, files_asked, image_asked, build_asked, compile_asked, link_asked, meaning_asked, demo_refused, demo_ran}
@@ -129,6 +129,13 @@ closed start steps stats count ended said marks before after later run (line_cut
 closed start steps stats count ended said marks before after later run (line_cut status exited (inr is) part) = inr is
 closed start steps stats count ended said marks before after later run (no_line none is same) = subst (IsOfSort ran) (sym is) (of_run start steps stats ended marks before after run)
 
+-- the bound of a meaning is no refusal
+not_bound : (said wanted : Ending) (cost : ℕ) → said ≡ CostUsed cost → said ≡ wanted → sort_of wanted ≡ refused → ⊥
+not_bound said wanted cost is same refusal =
+    let s : sort_of said ≡ followed = ap sort_of is in
+    let t : sort_of said ≡ refused = ap sort_of same ∙ refusal in
+    cc
+
 cause : (made : Option Image) (said wanted : Ending) (marks : Option ℕ) (words : List (List ℕ)) (counts : FileCounts) (now : Option FileMap) (kept : Type 0) (before after : Streams)
     → Performed made said marks words counts now kept before after → said ≡ wanted → sort_of wanted ≡ refused → Cause said words counts
 cause made said wanted marks words counts now kept before after (words_refused none why nothing stays) same refusal = of_words said words counts why
@@ -163,7 +170,8 @@ cause made said wanted marks words counts now kept before after (meaning_asked f
 cause made said wanted marks words counts now kept before after (meaning_asked files cost none asks unmarked (meaning_followed meant)) same refusal =
     elim (sorted said cost meant) [
       | inl run ↦ absurd (not_ran said wanted run same refusal)
-      | inr is ↦ no_text is (inr (request.Mean cost files, asks, tt))
+      | inr (inl is) ↦ no_text is (inr (request.Mean cost files, asks, tt))
+      | inr (inr is) ↦ absurd (not_bound said wanted cost is same refusal)
     ]
 cause made said wanted marks words counts now kept before after (demo_refused count refusal none asks is why nothing) same refusal_sort =
     of_units said words counts refusal (inr (request.Demo count, asks, tt)) is why
@@ -390,7 +398,8 @@ bad_image_by made said marks words told kept before after fault offset (demo_run
 bad_image_by made said marks words told kept before after fault offset (meaning_run none files cost asks unmarked meant) same =
     elim (sorted said cost meant) [
       | inl run ↦ absurd (not_run_malformed said fault offset run same)
-      | inr is ↦ absurd (not_malformed said fault offset (inl (ap sort_of is)) same)
+      | inr (inl is) ↦ absurd (not_malformed said fault offset (inl (ap sort_of is)) same)
+      | inr (inr is) ↦ absurd cc
     ]
 bad_image_by made said marks words told kept before after fault offset (image_ran none run) same =
     elim (of_image (image_at run.bytes) run.steps run.stats said marks kept before after run.runs) [
@@ -413,3 +422,45 @@ pub bad_image : (ending : Ending) (made : Option Image) (said : Ending) (marks :
     → IsRunOf made said marks words told kept before after → IsUnless said ending → (fault : ElfFault) (offset : ℕ) → ending ≡ BadImage fault offset → ReadsAs words told fault offset
 bad_image ending made said marks words told kept before after run report fault offset is =
     bad_image_by made said marks words told kept before after fault offset run (is_said said ending (BadImage fault offset) report is (λ e. cc) (λ e. cc))
+
+-- ---- the bound of a meaning
+
+-- a refusal is not one
+refused_costless : (said : Ending) (k : ℕ) → IsOfSort refused said → said ≡ CostUsed k → ⊥
+refused_costless said k (inl is) same = let s : sort_of said ≡ followed = ap sort_of same in cc
+refused_costless said k (inr is) same = cc
+
+-- nor is the ending of a run
+ran_costless : (said : Ending) (k : ℕ) → IsOfSort ran said → said ≡ CostUsed k → ⊥
+ran_costless said k (inl is) same = let s : sort_of said ≡ followed = ap sort_of same in cc
+ran_costless said k (inr is) same = cc
+
+-- nor is a malformed image
+unlike : (said : Ending) (fault : ElfFault) (offset k : ℕ) → said ≡ BadImage fault offset → said ≡ CostUsed k → ⊥
+unlike said fault offset k is same = cc
+
+-- the words ask for a meaning up to that cost
+abbrev AsksMeaning : (words : List (List ℕ)) (cost : ℕ) → Type 0
+AsksMeaning words cost = (files : List (List ℕ)) × Listed words (request.Mean cost files)
+
+cost_by : (made : Option Image) (said : Ending) (marks : Option ℕ) (words : List (List ℕ)) (told : Option FileMap) (kept : Type 0) (before after : Streams) (k : ℕ)
+    → IsRunOf made said marks words told kept before after → said ≡ CostUsed k → AsksMeaning words k
+cost_by made said marks words told kept before after k (none_ran none refusal nothing) same = absurd (refused_costless said k refusal same)
+cost_by made said marks words told kept before after k (job_ran image is job asked writes run not_read left) same =
+    absurd (ran_costless said k (of_run _ _ _ said marks before after run) same)
+cost_by made said marks words told kept before after k (files_run image is run) same = absurd (ran_costless said k (of_run _ _ _ said marks before after run.runs) same)
+cost_by made said marks words told kept before after k (file_written none is name names nothing) same = absurd (ran_costless said k (inl (ap sort_of is)) same)
+cost_by made said marks words told kept before after k (demo_run image sound is count ended between asks unmarked left run closes unread) same =
+    absurd (ran_costless said k (closed _ _ _ count ended said _ _ _ after.written run closes) same)
+cost_by made said marks words told kept before after k (meaning_run none files cost asks unmarked meant) same =
+    (files, subst (λ (n : ℕ). Listed words (request.Mean n files)) (sym (cost_named said cost k meant same)) asks)
+cost_by made said marks words told kept before after k (image_ran none run) same =
+    elim (of_image (image_at run.bytes) run.steps run.stats said marks kept before after run.runs) [
+      | inl ended ↦ absurd (ran_costless said k ended same)
+      | inr (f, o, bytes, is) ↦ absurd (unlike said f o k is same)
+    ]
+
+pub cost_used : (ending : Ending) (made : Option Image) (said : Ending) (marks : Option ℕ) (words : List (List ℕ)) (told : Option FileMap) (kept : Type 0) (before after : Streams)
+    → IsRunOf made said marks words told kept before after → IsUnless said ending → (k : ℕ) → ending ≡ CostUsed k → AsksMeaning words k
+cost_used ending made said marks words told kept before after run report k is =
+    cost_by made said marks words told kept before after k run (is_said said ending (CostUsed k) report is (λ e. cc) (λ e. cc))

@@ -21,7 +21,7 @@ ghost use Rattle.elf_image.specs.Writing.{elf_of};
 ghost use Rattle.fsc_base.specs.declared.image.Image.{Image};
 ghost use Rattle.fsc_base.specs.Image.{IsSound};
 ghost use Rattle.command_line.specs.Requests.{IsUsable, Listed};
-ghost use Rattle.command_line.specs.declared.request.Request.TheVariants.{Build, Compile, Link};
+ghost use Rattle.command_line.specs.declared.request.Request.TheVariants.{Build, Compile, Link, Mean};
 ghost use Rattle.fsc_ending.specs.Reporting.{IsUnless, IsReported};
 ghost use Rattle.fsc_run.specs.Running.{streams_of, RanNothing, RunsImage};
 ghost use Rattle.fsc_commands.specs.Refusing.{IsNoProgram, IsRejection};
@@ -164,6 +164,7 @@ pub fn tool<F: Files, S: Source, O: Sink, E: Sink>(
     ensures link_refused { (fault : LinkFault) → result ≡ Ending.LinkRefused fault → AsksLinked words.now (F.contents files.old) }
     ensures bad_unit { (name : List ℕ) (fault : UnitFault) (offset : ℕ) → result ≡ Ending.BadUnit name fault offset → AsksUnit words.now name ×
         ((bytes : List ℕ) × Holds (F.contents files.old) name (Some bytes) × IsFault bytes fault offset) }
+    ensures cost_used { (k : ℕ) → result ≡ Ending.CostUsed k → (names : List (List ℕ)) × Listed words.now (Mean k names) }
     ensures bad_image { (fault : ElfFault) (offset : ℕ) → result ≡ Ending.BadImage fault offset → (file : List ℕ) × (steps : ℕ) × (stats : Bool) × (bytes : List ℕ) ×
         AsksRun words.now file steps stats × Holds (F.contents files.old) file (Some bytes) × (image_at bytes ≡ Err (Bad fault offset)) }
     ensures missing { (name : List ℕ) → result ≡ Ending.MissingFile name →

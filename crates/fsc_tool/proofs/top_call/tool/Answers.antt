@@ -1,5 +1,5 @@
 use Rattle.std.proofs.Common.{inl, inr}
-use Rattle.fsc_tool.proofs.Causes.{usage_only, usage, command, bad_unit_only, text_only, rejected, link_refused, bad_image, missing, file_fault}
+use Rattle.fsc_tool.proofs.Causes.{usage_only, usage, command, bad_unit_only, text_only, rejected, link_refused, cost_used, bad_image, missing, file_fault}
 use Rattle.fsc_tool.proofs.Files.{unchanged, built, linked, compiled}
 use Rattle.fsc_tool.proofs.Jobs.{ends, text}
 use Rattle.fsc_tool.proofs.Performing.{is_run, image_runs}
@@ -28,6 +28,9 @@ returns-clause-exited g c = exited _ _ _ _ _ _ _ _ _ (unless _ _ _ _ _ c.report.
 
 pub returns-clause-steps_used : goal.returns-clause-steps_used
 returns-clause-steps_used g c = steps_used _ _ _ _ _ _ _ _ _ (unless _ _ _ _ _ c.report.ensures.reported) (is_run _ _ _ _ _ _ _ _ _ c.perform-done.ensures.performed)
+
+pub returns-clause-cost_used : goal.returns-clause-cost_used
+returns-clause-cost_used g c = cost_used _ _ _ _ _ _ _ _ _ (is_run _ _ _ _ _ _ _ _ _ c.perform-done.ensures.performed) (unless _ _ _ _ _ c.report.ensures.reported)
 
 pub returns-clause-bad_image : goal.returns-clause-bad_image
 returns-clause-bad_image g c = bad_image _ _ _ _ _ _ _ _ _ (is_run _ _ _ _ _ _ _ _ _ c.perform-done.ensures.performed) (unless _ _ _ _ _ c.report.ensures.reported)
