@@ -14,6 +14,8 @@ pub mod Rows
 pub mod Runs
 pub mod Samples
 pub mod Sound
+pub mod SoundExpressions
+pub mod SoundTypes
 pub mod States
 pub mod Views
 pub mod Watching
