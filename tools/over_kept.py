@@ -8,6 +8,7 @@ is not kept for `rt ci`, which is the gate. It stands on the inside of the kit's
 import importlib.machinery
 import importlib.util
 import os
+import shutil
 import sys
 
 KIT = "/opt/rattle/bin"
@@ -26,6 +27,8 @@ def lacking(kept, crate):
     """Gives each library below the crate what was kept of it, and returns the names of those of which nothing was."""
     names = []
     for library in crate.below():
+        # (a file that is there already counts as damage, for which the kept one would be removed)
+        shutil.rmtree(f"{library.folder}/out/rlib", ignore_errors=True)
         os.makedirs(f"{library.folder}/out", exist_ok=True)
         if not kept.give(library, False, kept.key(library)):
             names.append(library.name)
