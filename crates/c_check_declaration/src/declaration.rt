@@ -37,6 +37,17 @@ impl<'a> Declaring<'a> {
         }
     }
 
+    /// The same as an object with linkage whose initialiser gives it that type.
+    fn completed(&self, kind: TypeId) -> LinkedName<'a> {
+        LinkedName {
+            name: self.name,
+            kind,
+            storage: self.storage,
+            is_function: false,
+            place: self.place,
+        }
+    }
+
     /// K14 at the declarator where it has an initialiser.
     fn takes_none(&self) -> Result<(), CheckRefused> {
         match self.initial {
@@ -142,6 +153,7 @@ fn initialise_linked(
     let symbol = scope.symbol_to_define(symbol, &declaring.linked(false))?;
     let kind = target_kind(scope, declaring);
     let (kind, pieces) = laid_out(alloc, scope, kind, initial, true)?;
+    let symbol = scope.symbol_to_complete(symbol, &declaring.completed(kind))?;
     scope.complete_linked(declaring.name, symbol, kind)?;
     scope.define_object(symbol, declaring.place)?;
     scope.fill(Symbol::Named(symbol), pieces, declaring.place)

@@ -316,6 +316,32 @@ impl Scope {
         }
     }
 
+    /// Whether a symbol has external linkage.
+    fn is_external(&self, symbol: u32) -> bool {
+        match self.symbols.get(symbol as usize) {
+            Some(note) => note.linkage == Linkage::External,
+            None => false,
+        }
+    }
+
+    /// The symbol whose object an initialiser fills that gives it that type: the one to define, where their types are compatible. A
+    /// declaration of another scope may have given it another type: with external linkage a further symbol is defined then, with internal
+    /// linkage the symbol takes the new type (C90 6.1.2.6, 6.5.7).
+    pub fn symbol_to_complete(
+        &mut self,
+        symbol: u32,
+        linked: &LinkedName,
+    ) -> Result<u32, NoMemory> {
+        if self.is_compatible(symbol, linked.kind)? {
+            return Ok(symbol);
+        }
+        if self.is_external(symbol) {
+            return self.add_symbol(linked, Linkage::External);
+        }
+        self.set_kind(symbol, linked.kind);
+        Ok(symbol)
+    }
+
     /// Notes what defines a symbol. K16 at the place where it is defined.
     fn define(&mut self, symbol: u32, defined: Defined, place: Place) -> Result<(), CheckRefused> {
         match self.symbols.get_mut(symbol as usize) {
