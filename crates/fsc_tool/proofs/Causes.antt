@@ -157,8 +157,8 @@ cause made said wanted marks words counts now kept before after (build_asked ima
     of_names said words files (request.Build image files) counts asks refl tt (inr (request.Build image files, asks, tt)) why
 cause made said wanted marks words counts now kept before after (build_asked image files none asks (image_written writes) nothing) same refusal =
     of_writes said wanted words image _ counts now (request.Build image files, asks, refl) writes same refusal
-cause made said wanted marks words counts now kept before after (compile_asked unit file none asks (nothing_compiled no is why stays) nothing) same refusal =
-    of_one said words unit file counts no asks is why
+cause made said wanted marks words counts now kept before after (compile_asked unit file none asks (nothing_compiled reason is why stays) nothing) same refusal =
+    of_one said words unit file counts reason asks is why
 cause made said wanted marks words counts now kept before after (compile_asked unit file none asks (unit_written writes) nothing) same refusal =
     of_writes said wanted words unit _ counts now (request.Compile unit file, asks, refl) writes same refusal
 cause made said wanted marks words counts now kept before after (link_asked image units none asks (link_none why stays) nothing) same refusal =
@@ -211,9 +211,11 @@ unit_by said words counts name fault offset (bad_unit file bytes unit_fault at i
     let f : unit_fault ≡ fault = cc in
     let o : at ≡ offset = cc in (
       subst (AsksUnit words) e asks,
-      bytes,
-      subst (λ (n : List ℕ). Holds counts.told n (Some bytes)) e held,
-      subst (λ (n : ℕ). IsFault bytes fault n) o (subst (λ (x : UnitFault). IsFault bytes x at) f faulty),
+      (
+        bytes,
+        subst (λ (n : List ℕ). Holds counts.told n (Some bytes)) e held,
+        subst (λ (n : ℕ). IsFault bytes fault n) o (subst (λ (x : UnitFault). IsFault bytes x at) f faulty),
+      ),
     )
 unit_by said words counts name fault offset (no_text is asks) same = absurd cc
 unit_by said words counts name fault offset (no_memory is) same = absurd cc

@@ -99,8 +99,8 @@ is_run made said marks words counts now kept before after (build_asked image fil
     none_ran none (refused_names said files counts why) nothing
 is_run made said marks words counts now kept before after (build_asked image files none asks (image_written writes) nothing) =
     of_writes made said marks words image _ counts now kept before after none (request.Build image files, asks, refl) nothing writes
-is_run made said marks words counts now kept before after (compile_asked unit file none asks (nothing_compiled no is why same) nothing) =
-    none_ran none (refused_units said no is) nothing
+is_run made said marks words counts now kept before after (compile_asked unit file none asks (nothing_compiled reason is why same) nothing) =
+    none_ran none (refused_units said reason is) nothing
 is_run made said marks words counts now kept before after (compile_asked unit file none asks (unit_written writes) nothing) =
     of_writes made said marks words unit _ counts now kept before after none (request.Compile unit file, asks, refl) nothing writes
 is_run made said marks words counts now kept before after (link_asked image units none asks (link_refused why same) nothing) =
