@@ -1,8 +1,8 @@
 -- Why files are refused, seen from before a file was read.
-use Rattle.std.proofs.Common.{◌≡◌, ℕ, ◌≤◌, List, [], ◌∷◌, Bool, Option, Some, None, subst}
+use Rattle.std.proofs.Common.{◌≡◌, ℕ, ◌≤◌, List, [], ◌∷◌, Bool, Option, Some}
 use Rattle.fsc_base.specs.declared.image.Image.{Image}
 use Rattle.fsc_outside.specs.Calls.{FileCounts}
-use Rattle.fsc_outside.specs.FileMap.{FileMap, Holds}
+use Rattle.fsc_outside.specs.FileMap.{Holds}
 use Rattle.rv_run.specs.ImageRun.{Streams}
 use Rattle.fsc_core.proofs.Earlier.{files_earlier}
 use Rattle.fsc_ending.specs.declared.ending.Ending.{Ending}

@@ -1,12 +1,12 @@
 -- The run of the image of a program.
-use Rattle.std.proofs.Common.{◌≡◌, ℕ, ◌⊎◌, inl, inr, List, Bool, Option, refl, subst, sym, ◌∙◌}
+use Rattle.std.proofs.Common.{◌≡◌, ℕ, ◌⊎◌, inl, inr, List, Bool, Option, subst, sym}
 use Rattle.fsc_base.specs.declared.image.Image.{Image}
 use Rattle.fsc_outside.specs.Streams.{Appends, AppendsFront}
 use Rattle.rv_run.specs.declared.stop.Stop.{Stop}
 use Rattle.rv_run.specs.declared.stop.Stop.TheVariants as stop
 use Rattle.rv_run.specs.declared.stop.TrapKind.{TrapKind}
 use Rattle.rv_run.specs.Machine.{State, start_of}
-use Rattle.rv_run.specs.ImageRun.{ImageRun, Streams, image_run, IsKnown, given_of, Runs}
+use Rattle.rv_run.specs.ImageRun.{ImageRun, Streams, image_run, given_of, Runs}
 use Rattle.rv_run.proofs.Running.{known_unasked}
 use Rattle.plain_text.specs.declared.program.Program.{Program}
 use Rattle.plain_image.specs.Writing.{Writes}

@@ -1,5 +1,5 @@
 -- What came of writing a file, and of what stands before it.
-use Rattle.std.proofs.Common.{◌≡◌, ℕ, ◌≤◌, inl, inr, List, [], ◌∷◌, ◌<◌, length, get_or, Option, Some, None, refl, subst}
+use Rattle.std.proofs.Common.{◌≡◌, ℕ, ◌≤◌, inl, inr, List, ◌<◌, length, get_or, Option, Some, None, refl, subst}
 use Rattle.std.proofs.lemmas.Option.{slice_get_read}
 use Rattle.fsc_outside.specs.Calls.{FileCounts, Fails}
 use Rattle.fsc_outside.specs.FileMap.{FileMap, Holds, Replaces, KeepsOthers}

@@ -1,5 +1,5 @@
 -- What is asked for is one job.
-use Rattle.std.proofs.Common.{◌≡◌, ◌≢◌, ℕ, List, [], ◌∷◌, length, Bool, Option, Some, None, refl, sym, ap, subst}
+use Rattle.std.proofs.Common.{◌≡◌, ◌≢◌, ℕ, List, [], ◌∷◌, length, Bool, Option, Some, None, sym, ap, subst}
 use Rattle.std.specs.Prelude.{IsSome}
 use Rattle.fsc_outside.specs.FileMap.{FileMap, Holds}
 use Rattle.plain_text.specs.Program.{IsPlain}

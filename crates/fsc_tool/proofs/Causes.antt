@@ -14,7 +14,7 @@ use Rattle.command_line.specs.Requests.{IsUsable, Listed}
 use Rattle.command_line.specs.declared.request.Request.{Request}
 use Rattle.command_line.specs.declared.request.Request.TheVariants as request
 use Rattle.fsc_ending.specs.declared.ending.Ending.{Ending}
-use Rattle.fsc_ending.specs.declared.ending.Ending.TheVariants.{Exited, CostUsed, Usage, MissingFile, FileFault, Rejected, LinkRefused, BadUnit, BadImage, NotBuilt, NoMemory}
+use Rattle.fsc_ending.specs.declared.ending.Ending.TheVariants.{CostUsed, Usage, MissingFile, FileFault, Rejected, LinkRefused, BadUnit, BadImage, NotBuilt, NoMemory}
 use Rattle.fsc_ending.specs.declared.ending.Form.TheVariants.{Command, Text}
 use Rattle.fsc_ending.specs.Reporting.{IsUnless}
 use Rattle.fsc_ending.specs.Sort.{ran, followed, refused, malformed, sort_of, IsOfSort}
@@ -27,8 +27,8 @@ use Rattle.fsc_core.specs.declared.refusal.CoreNo.TheVariants as core
 use Rattle.fsc_run.specs.Reading.{IsAbsent, RefusesRead, absent, unreadable, unheld}
 use Rattle.fsc_run.specs.Running.{RanFrom, image_unread, image_read}
 use Rattle.fsc_run.proofs.Sorts.{of_run, of_image, not_ran, not_of_image}
-use Rattle.fsc_commands.specs.Refusing.{IsNoProgram, IsRejection, RefusesNames, refused_so, ending_of_refusal}
-use Rattle.fsc_commands.specs.Going.{program_unmade, program_ran, RunsFile, files_refused, files_ran, file_unread, file_ran, file_built}
+use Rattle.fsc_commands.specs.Refusing.{IsRejection, RefusesNames, refused_so, ending_of_refusal}
+use Rattle.fsc_commands.specs.Going.{program_unmade, program_ran, files_refused, files_ran, file_unread, file_ran, file_built}
 use Rattle.fsc_commands.specs.Writing.{Writes, written, unwritten, unheld as write_unheld, files_refused as nothing_built, image_written, file_refused as nothing_compiled, unit_written, no_unit, unit_unheld, RefusesLink, unit_unread, unit_bad, units_refused, link_refused as link_none, link_written}
 use Rattle.fsc_commands.specs.Meaning.{files_refused as meaning_refused, meaning_followed}
 use Rattle.fsc_commands.proofs.Endings.{sorted, cost_named}

@@ -1,12 +1,11 @@
 -- A run of the demonstration, which touches no input.
-use Rattle.std.proofs.Common.{◌≡◌, ◌≢◌, ℕ, List, Option, Some, None, refl, ap}
+use Rattle.std.proofs.Common.{◌≡◌, ◌≢◌, ℕ, List, Option, None, refl, ap}
 use Rattle.fsc_base.specs.declared.image.Image.{Image}
 use Rattle.fsc_outside.specs.Calls.{FileCounts}
 use Rattle.fsc_outside.specs.FileMap.{FileMap}
 use Rattle.rv_run.specs.ImageRun.{Streams}
 use Rattle.command_line.specs.Requests.{Listed}
 use Rattle.command_line.specs.declared.request.Request.TheVariants as request
-use Rattle.fsc_core.specs.declared.refusal.CoreNo.{CoreNo}
 use Rattle.fsc_ending.specs.declared.ending.Ending.{Ending}
 use Rattle.fsc_ending.specs.declared.ending.Ending.TheVariants.{ReadFault}
 use Rattle.fsc_commands.specs.Demonstrating.{RunsDemo, demo_refused as no_program, demo_ran as program_ran}

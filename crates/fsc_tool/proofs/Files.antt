@@ -1,6 +1,5 @@
 -- Which files a call changes, and what it leaves in the one that it writes.
-use Rattle.std.proofs.Common.{◌≡◌, ◌≢◌, ℕ, ◌⊎◌, inl, inr, List, [], ◌∷◌, Bool, true, false, cond, Option, Some, None, refl, sym, ap, subst, ◌∙◌}
-use Rattle.std.specs.Prelude.{IsSomeAnd}
+use Rattle.std.proofs.Common.{◌≡◌, ◌≢◌, ℕ, inl, inr, List, [], ◌∷◌, true, false, cond, Option, Some, None, refl, sym, subst, ◌∙◌}
 use Rattle.std.specs.Ordering.{nat_cmp, eq_by_cmp}
 use Rattle.std.specs.Cmp.Lexicographic.{slice_cmp, nat_list_cmp_total}
 use Rattle.std.specs.FinMap as map
@@ -21,9 +20,9 @@ use Rattle.command_line.specs.Requests.{Listed}
 use Rattle.command_line.specs.declared.request.Request.{Request}
 use Rattle.command_line.specs.declared.request.Request.TheVariants as request
 use Rattle.fsc_ending.specs.declared.ending.Ending.{Ending}
-use Rattle.fsc_ending.specs.declared.ending.Ending.TheVariants.{Exited, FileFault, NoteFault, NoMemory}
+use Rattle.fsc_ending.specs.declared.ending.Ending.TheVariants.{Exited}
 use Rattle.fsc_ending.specs.Reporting.{IsUnless}
-use Rattle.fsc_ending.specs.Sort.{ran, refused, sort_of, IsOfSort}
+use Rattle.fsc_ending.specs.Sort.{ran, sort_of}
 use Rattle.fsc_commands.specs.Writing.{Writes, written, unwritten, unheld, IsImageFile, IsUnitFile, BuildsFiles, files_refused, image_written, CompilesFile, file_refused, unit_written, LinksFiles, link_refused, link_written}
 use Rattle.fsc_tool.specs.Words.{NamesToWrite, writes_of}
 use Rattle.fsc_tool.specs.Performing.{Performed, words_refused, file_asked, files_asked, image_asked, build_asked, compile_asked, link_asked, meaning_asked, demo_refused, demo_ran}

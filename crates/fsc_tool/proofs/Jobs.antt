@@ -12,7 +12,7 @@ use Rattle.plain_text.specs.declared.program.Program.{Program}
 use Rattle.plain_text.specs.Program.{IsPlain}
 use Rattle.command_line.specs.declared.request.Request.TheVariants as request
 use Rattle.fsc_ending.specs.declared.ending.Ending.{Ending}
-use Rattle.fsc_ending.specs.declared.ending.Ending.TheVariants.{MissingFile, FileFault, WriteFault, NoteFault, Rejected, LinkRefused, NotBuilt, NoMemory}
+use Rattle.fsc_ending.specs.declared.ending.Ending.TheVariants.{FileFault, WriteFault, NoteFault, Rejected, LinkRefused, NotBuilt, NoMemory}
 use Rattle.fsc_ending.specs.declared.ending.Form.TheVariants.{Text}
 use Rattle.fsc_ending.specs.Reporting.{IsUnless}
 use Rattle.c_link.specs.declared.fault.LinkFault.{LinkFault}
@@ -20,7 +20,7 @@ use Rattle.fsc_core.specs.Refusing.{Among}
 use Rattle.fsc_core.specs.declared.refusal.CoreNo.TheVariants as core
 use Rattle.fsc_run.specs.Reading.{RefusesRead, absent, unreadable, unheld}
 use Rattle.fsc_commands.specs.Refusing.{GivesProgram, IsNoProgram, RefusesNames, refused_so}
-use Rattle.fsc_commands.specs.Going.{program_unmade, program_ran, RunsFiles, files_refused, files_ran, RunsFile, file_unread, file_ran, file_built}
+use Rattle.fsc_commands.specs.Going.{program_unmade, program_ran, files_refused, files_ran, file_unread, file_ran, file_built}
 use Rattle.fsc_commands.proofs.Going.{Answers, exits, bound, cut, answers}
 use Rattle.fsc_tool.specs.Words.{Asks}
 use Rattle.fsc_tool.specs.Performing.{unusable, words_unheld, Performed, words_refused, file_asked, files_asked, image_asked, build_asked, compile_asked, link_asked, meaning_asked, demo_refused, demo_ran}

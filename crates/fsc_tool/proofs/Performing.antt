@@ -4,7 +4,7 @@ use Rattle.std.specs.Prelude.{IsSome}
 use Rattle.fsc_base.specs.declared.image.Image.{Image}
 use Rattle.fsc_outside.specs.Calls.{FileCounts}
 use Rattle.fsc_outside.specs.Counts.{Rose}
-use Rattle.fsc_outside.specs.FileMap.{FileMap, Holds, KeepsOthers}
+use Rattle.fsc_outside.specs.FileMap.{FileMap, Holds}
 use Rattle.elf_image.specs.Reading.{image_at}
 use Rattle.elf_image.specs.declared.fault.ReadElfNo.{ReadElfNo}
 use Rattle.elf_image.specs.declared.fault.ReadElfNo.TheVariants as elf

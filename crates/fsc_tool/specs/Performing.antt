@@ -1,5 +1,5 @@
 -- Why the tool answers as it does before the lines of notes are written.
-use Rattle.std.specs.Prelude.{◌≡◌, ◌≢◌, ℕ, List, [], ◌∷◌, length, Bool, false, Option, Some, None}
+use Rattle.std.specs.Prelude.{◌≡◌, ◌≢◌, ℕ, List, length, Bool, false, Option, Some, None}
 use Rattle.fsc_base.specs.declared.image.Image.{Image}
 use Rattle.fsc_base.specs.Image.{IsSound}
 use Rattle.fsc_outside.specs.Calls.{FileCounts}

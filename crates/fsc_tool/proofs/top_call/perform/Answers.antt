@@ -1,10 +1,9 @@
-use Rattle.std.proofs.Common.{◌≡◌, ℕ, List, [], ◌∷◌, inl, inr, refl, ap, subst, sym, ◌∙◌, arith}
+use Rattle.std.proofs.Common.{◌≡◌, ℕ, List, inl, refl, ap, subst, sym, ◌∙◌, arith}
 use Rattle.command_line.specs.Requests.{Listed}
 use Rattle.command_line.specs.declared.request.Request.{Request}
 use Rattle.command_line.specs.declared.request.Request.TheVariants as request
 use Rattle.fsc_outside.specs.Calls.{counts_of}
 use Rattle.fsc_ending.specs.declared.ending.Ending.{Ending}
-use Rattle.fsc_ending.specs.declared.ending.Ending.TheVariants.{ReadFault}
 use Rattle.fsc_run.specs.Running.{streams_of}
 use Rattle.fsc_commands.specs.Writing.{BuildsFiles, CompilesFile, LinksFiles}
 use Rattle.fsc_commands.specs.Meaning.{MeansFiles}
