@@ -1,4 +1,4 @@
--- The seven commands with their arguments, as clap sees them.
+-- The eight commands with their arguments, as clap sees them.
 use Rattle.std.specs.Prelude.{◌^◌, ℕ, true, [], Some, codes}
 use Rattle.clap.specs.Lexer.{usize_max}
 use Rattle.clap.specs.Words.{App, Rule, Text, new_rule, with_rule}
@@ -96,6 +96,9 @@ go_command =
 
 abbrev pub mean_command : App
 mean_command = with_rule (with_rule (bare_command (codes "mean")) cost_rule) (several_rule (codes "files"))
+
+abbrev pub report_command : App
+report_command = with_rule (with_rule (bare_command (codes "report")) steps_rule) (several_rule (codes "files"))
 
 abbrev pub demo_command : App
 demo_command = with_rule (bare_command (codes "demo")) count_rule

@@ -4,10 +4,10 @@ use Rattle.std.specs.Option.{option_map_or}
 use Rattle.std.specs.Str.{IsUtf8, bytes_eq}
 use Rattle.std.specs.Str.Parse.{digits_value, without_leading_plus}
 use Rattle.clap.specs.Words.{App, Row, Text, all_of, fault_of, first_of, matches_of, one_of}
-use Rattle.command_line.specs.Commands.{build_command, compile_command, demo_command, go_command, link_command, mean_command, run_command}
+use Rattle.command_line.specs.Commands.{build_command, compile_command, demo_command, go_command, link_command, mean_command, report_command, run_command}
 use Rattle.command_line.specs.Commands.{default_cost, default_steps, most_cost, most_count, most_steps}
 use Rattle.command_line.specs.declared.request.Request.{Request}
-use Rattle.command_line.specs.declared.request.Request.TheVariants.{Build, Compile, Link, Run, Go, Mean, Demo}
+use Rattle.command_line.specs.declared.request.Request.TheVariants.{Build, Compile, Link, Run, Go, Mean, Report, Demo}
 
 -- the number that Rust reads from digits, with a plus sign in front or without
 abbrev pub number_in : Text → ℕ
@@ -33,12 +33,12 @@ Takes command words = (slice_get words 0 ≡ Some command.top.name) × (fault_of
 abbrev pub IsReadable : List Text → Type 0
 IsReadable words = (length words ≤ 1000) × All IsUtf8 words
 
--- one of the seven commands takes the words
+-- one of the eight commands takes the words
 abbrev pub IsTaken : List Text → Type 0
 IsTaken words = Takes build_command words ⊎ (Takes compile_command words ⊎ (Takes link_command words
-    ⊎ (Takes run_command words ⊎ (Takes go_command words ⊎ (Takes mean_command words ⊎ Takes demo_command words)))))
+    ⊎ (Takes run_command words ⊎ (Takes go_command words ⊎ (Takes mean_command words ⊎ (Takes report_command words ⊎ Takes demo_command words))))))
 
--- at most 1,000 words, each of them UTF-8, which one of the seven commands takes
+-- at most 1,000 words, each of them UTF-8, which one of the eight commands takes
 unfoldable pub IsUsable : List Text → Type 0
 IsUsable words = IsReadable words × IsTaken words
 
@@ -64,6 +64,9 @@ Holds words (Go steps stats files) = Takes go_command words
 Holds words (Mean cost files) = Takes mean_command words
     × (cost_in (matches_of mean_command words) ≡ cost)
     × (all_of (codes "files") (matches_of mean_command words) ≡ Some files)
+Holds words (Report steps files) = Takes report_command words
+    × (steps_in (matches_of report_command words) ≡ steps)
+    × (all_of (codes "files") (matches_of report_command words) ≡ Some files)
 Holds words (Demo count) = Takes demo_command words
     × (option_map number_in (one_of (codes "count") (matches_of demo_command words)) ≡ Some count)
 
@@ -79,4 +82,5 @@ IsBounded (Link image units) = 0 < length units
 IsBounded (Run steps stats image) = (0 < steps) × (steps ≤ most_steps)
 IsBounded (Go steps stats files) = (0 < steps) × (steps ≤ most_steps) × (0 < length files)
 IsBounded (Mean cost files) = (0 < cost) × (cost ≤ most_cost) × (0 < length files)
+IsBounded (Report steps files) = (0 < steps) × (steps ≤ most_steps) × (0 < length files)
 IsBounded (Demo count) = (0 < count) × (count ≤ most_count)

@@ -3,7 +3,7 @@
 ghost use Rattle.std.specs.Prelude.{◌≡◌, IfOk, codes, false};
 ghost use Rattle.clap.specs.Words.{app_of, rule_of};
 ghost use Rattle.command_line.specs.Commands.{bare_command, output_rule, single_rule, several_rule, steps_rule, stats_rule, cost_rule, count_rule};
-ghost use Rattle.command_line.specs.Commands.{build_command, compile_command, link_command, run_command, go_command, mean_command, demo_command};
+ghost use Rattle.command_line.specs.Commands.{build_command, compile_command, link_command, run_command, go_command, mean_command, report_command, demo_command};
 
 use clap::{Arg, ArgAction, Command, value_parser};
 use std::alloc::{AllocError, Global};
@@ -148,6 +148,15 @@ pub(crate) fn mean_command<'a>(alloc: Global) -> Result<Command<'a>, AllocError>
 {
     bare(alloc, "mean")
         .arg(cost(alloc))?
+        .arg(several(alloc, "files"))
+}
+
+/// `report [--steps N] FILE..`.
+pub(crate) fn report_command<'a>(alloc: Global) -> Result<Command<'a>, AllocError>
+    ensures { IfOk result (λ command. app_of command ≡ report_command) }
+{
+    bare(alloc, "report")
+        .arg(steps(alloc))?
         .arg(several(alloc, "files"))
 }
 

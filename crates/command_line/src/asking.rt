@@ -3,13 +3,13 @@
 ghost use Rattle.std.specs.Prelude.{◌≡◌, ℕ, List, IfOk, IfErr, IsErr, MatchResult, All, Some, codes, map, slice_get};
 ghost use Rattle.clap.specs.Walk.{texts};
 ghost use Rattle.std.specs.Str.{IsUtf8};
-ghost use Rattle.command_line.specs.Commands.{build_command, compile_command, demo_command, go_command, link_command, mean_command, run_command};
+ghost use Rattle.command_line.specs.Commands.{build_command, compile_command, demo_command, go_command, link_command, mean_command, report_command, run_command};
 ghost use Rattle.command_line.specs.Requests.{Holds, IsBounded, IsReadable, IsTaken, IsUsable, Listed, Takes};
 ghost use Rattle.command_line.specs.declared.request.Request.{Request};
 
 use crate::arguments::{
     build_command, compile_command, demo_command, go_command, link_command, mean_command,
-    run_command,
+    report_command, run_command,
 };
 use crate::matching::{cost_of, count_of, matches_of, name_of, names_of, stats_of, steps_of};
 use crate::refusal::WordsNo;
@@ -20,16 +20,17 @@ use std::alloc::Global;
 /// The most words that are read.
 const MOST_WORDS: usize = 1000;
 
-/// What the words after the program's name ask for, as clap reads them: the first word names one of seven commands, and
+/// What the words after the program's name ask for, as clap reads them: the first word names one of eight commands, and
 /// clap takes the words behind it. Usage comes exactly where there are more than 1,000 words, a word is not UTF-8, the
 /// first word is no command, there is none, or clap finds a fault in the words. NoMemory comes where memory is
 /// refused.
 ///
 /// The lines are `build -o IMAGE FILE..`, `compile -o UNIT FILE`, `link -o IMAGE UNIT..`,
-/// `run [--steps N] [--stats] IMAGE`, `go [--steps N] [--stats] FILE..`, `mean [--cost K] FILE..` and `demo N`. Options stand in any order, also
-/// behind the names, and each at most once. A name that begins with a dash stands behind `--`. The N of `--steps` is
-/// from 1 to 10^12, and 10^10 without the option; the K of `--cost` is from 1 to 10^12, and 10^9 without it. The N of `demo` is from 1 to 2,000. Both may have a plus sign and
-/// zeros in front.
+/// `run [--steps N] [--stats] IMAGE`, `go [--steps N] [--stats] FILE..`, `mean [--cost K] FILE..`,
+/// `report [--steps N] FILE..` and `demo N`. Options stand in any order, also behind the names, and each at most once.
+/// A name that begins with a dash stands behind `--`. The N of `--steps` is from 1 to 10^12, and 10^10 without the
+/// option; the K of `--cost` is from 1 to 10^12, and 10^9 without it. The N of `demo` is from 1 to 2,000. All three may
+/// have a plus sign and zeros in front.
 #[tactic(auto, unfolding(crate::specs::Requests::IsUsable, crate::specs::Requests::Listed))]
 pub fn request_of(alloc: Global, words: &[Name]) -> Result<Request, WordsNo>
     ensures found { IfOk result (Listed words.now) }
@@ -81,6 +82,7 @@ fn request_in(alloc: Global, words: &[&str]) -> Result<Request, WordsNo>
         Some("run") => run(alloc, words),
         Some("go") => go(alloc, words),
         Some("mean") => mean(alloc, words),
+        Some("report") => report(alloc, words),
         Some("demo") => demo(alloc, words),
         _ => Err(WordsNo::Usage),
     }
@@ -168,6 +170,20 @@ fn mean(alloc: Global, words: &[&str]) -> Result<Request, WordsNo>
     let matches = matches_of(mean_command(alloc)?, words)?;
     Ok(Request::Mean {
         cost: cost_of(&matches),
+        files: names_of(alloc, &matches, "files")?,
+    })
+}
+
+/// What the words of `report` ask for.
+fn report(alloc: Global, words: &[&str]) -> Result<Request, WordsNo>
+    requires { slice_get (texts words.now) 0 ≡ Some (codes "report") }
+    ensures found { IfOk result (Holds (texts words.now)) }
+    ensures bounded { IfOk result IsBounded }
+    ensures usage { IfErr result (λ why. why ≡ WordsNo.Usage → Takes report_command (texts words.now) → ⊥) }
+{
+    let matches = matches_of(report_command(alloc)?, words)?;
+    Ok(Request::Report {
+        steps: steps_of(&matches),
         files: names_of(alloc, &matches, "files")?,
     })
 }

@@ -38,6 +38,12 @@ pub enum Request {
         cost: u64,
         files: Names,
     },
+    /// `report [--steps N] FILE..`: a run of the files' image, of at most so many instructions, and the objects that are alive at
+    /// its end.
+    Report {
+        steps: u64,
+        files: Names,
+    },
     /// `demo N`: the demonstration of that number.
     Demo {
         count: u32,

@@ -20,7 +20,7 @@ fn main(rt: HostRuntime) -> ExitCode {
         Ok(words) => tool(
             alloc, &words, &mut files, &mut input, &mut out, &mut notes, &mut made,
         ),
-        Err(_) => report(alloc, &mut notes, Ending::NoMemory, None),
+        Err(_) => report(alloc, &mut notes, Ending::NoMemory, None, None),
     };
     drop(made);
     ExitCode::from(status(&ending))

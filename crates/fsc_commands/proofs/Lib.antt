@@ -4,3 +4,4 @@ pub mod Fronting
 pub mod Going
 pub mod Outcomes
 mod Refusals
+pub mod Reports

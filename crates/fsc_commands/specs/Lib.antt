@@ -4,4 +4,5 @@ pub mod Finding
 pub mod Going
 pub mod Meaning
 pub mod Refusing
+pub mod Reporting
 pub mod Writing

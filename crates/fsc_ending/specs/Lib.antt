@@ -1,3 +1,4 @@
 pub mod Ending
+pub mod Lives
 pub mod Reporting
 pub mod Sort

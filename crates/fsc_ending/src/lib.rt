@@ -2,6 +2,7 @@
 #![tactic(auto)]
 
 mod ending;
+mod lives;
 mod note;
 
 pub use ending::{Ending, Form, StopKind, Storage, ending_of, status};

@@ -5,9 +5,12 @@ ghost use Rattle.std.specs.Fmt.{decimal};
 ghost use Rattle.fsc_outside.specs.Counts.{Rose};
 ghost use Rattle.fsc_outside.specs.Streams.{Appends, AppendsPart};
 ghost use Rattle.fsc_ending.specs.Ending.{line, place, extent, stop_text, storage_text, fault_name, trap_name, unit_fault_name, numbered, rejection, link_texts, link_line, bad_unit_line, note_of, marks_line};
+ghost use Rattle.fsc_ending.specs.Lives.{front_of};
 ghost use Rattle.fsc_ending.specs.Reporting.{IsReported};
 
 use crate::ending::{Ending, StopKind, Storage};
+use crate::lives::add_told;
+use block_report::Lives;
 use c_link::LinkFault;
 use elf_image::ElfFault;
 use fat_code::UnitFault;
@@ -17,7 +20,7 @@ use rv_run::TrapKind;
 use std::alloc::Global;
 
 /// Adds the decimal of a number to a line.
-fn add_number(alloc: Global, line: &mut Vec<u8>, n: u64) -> Result<(), NoMemory>
+pub(crate) fn add_number(alloc: Global, line: &mut Vec<u8>, n: u64) -> Result<(), NoMemory>
     ensures { OnOk result (line.new.items ≡ line.old.items ++ decimal n) }
 {
     let Ok(digits) = n.to_string(alloc) else {
@@ -310,28 +313,50 @@ fn marks_text(alloc: Global, marks: Option<u64>) -> Result<Vec<u8>, NoMemory>
     Ok(line)
 }
 
-/// Writes the line of the marks, if they are told.
+/// The lines that stand before that of an ending: that of the marks and those of the objects that are alive, if they are told.
+#[tactic(auto, using(crate::proofs::Noting::front_refused, crate::proofs::Noting::behind_refused))]
+fn front_text(alloc: Global, marks: Option<u64>, lives: &Option<Lives>) -> Result<Vec<u8>, NoMemory>
+    ensures made { IfOk result (λ made. made.items ≡ front_of marks lives.now) }
+    ensures refused { OnErr result (0 < length (front_of marks lives.now)) }
+{
+    let mut lines = marks_text(alloc, marks)?;
+    add_told(alloc, &mut lines, lives)?;
+    Ok(lines)
+}
+
+/// Writes the lines that stand before that of an ending.
 #[tactic(auto, using(crate::proofs::Noting::nothing_of))]
-fn write_marks<E: Sink>(alloc: Global, notes: &mut E, marks: Option<u64>) -> Wrote
-    ensures whole { result ≡ Wrote.Whole → Appends (E.written notes.old) (E.written notes.new) (marks_line marks) }
-    ensures part { result ≢ Wrote.Whole → AppendsPart (E.written notes.old) (E.written notes.new) (marks_line marks) }
+fn write_front<E: Sink>(
+    alloc: Global,
+    notes: &mut E,
+    marks: Option<u64>,
+    lives: &Option<Lives>,
+) -> Wrote
+    ensures whole { result ≡ Wrote.Whole → Appends (E.written notes.old) (E.written notes.new) (front_of marks lives.now) }
+    ensures part { result ≢ Wrote.Whole → AppendsPart (E.written notes.old) (E.written notes.new) (front_of marks lives.now) }
     ensures failed { result ≡ Wrote.Failed → Rose (E.fault_count notes.old) (E.fault_count notes.new) }
     ensures counted { E.fault_count notes.old ≤ E.fault_count notes.new }
 {
-    match marks_text(alloc, marks) {
-        Ok(line) => write_whole(notes, &line),
+    match front_text(alloc, marks, lives) {
+        Ok(lines) => write_whole(notes, &lines),
         Err(NoMemory) => Wrote::NoMemory,
     }
 }
 
-/// Writes the line of the marks, if they are told, and that of an ending, and answers that ending, or what takes its
-/// place where a line could not be written.
-pub fn report<E: Sink>(alloc: Global, notes: &mut E, ending: Ending, marks: Option<u64>) -> Ending
-    ensures reported { IsReported ending marks result (E.written notes.old) (E.written notes.new) }
+/// Writes the line of the marks and those of the objects that are alive, if they are told, and that of an ending, and answers that
+/// ending, or what takes its place where a line could not be written.
+pub fn report<E: Sink>(
+    alloc: Global,
+    notes: &mut E,
+    ending: Ending,
+    marks: Option<u64>,
+    lives: Option<Lives>,
+) -> Ending
+    ensures reported { IsReported ending marks lives result (E.written notes.old) (E.written notes.new) }
     ensures failed { result ≡ Ending.NoteFault → (ending ≡ Ending.NoteFault) ⊎ Rose (E.fault_count notes.old) (E.fault_count notes.new) }
     ensures counted { E.fault_count notes.old ≤ E.fault_count notes.new }
 {
-    match write_marks(alloc, notes, marks) {
+    match write_front(alloc, notes, marks, &lives) {
         Wrote::Whole => match write_note(alloc, notes, &ending) {
             Wrote::Whole => ending,
             Wrote::Failed => Ending::NoteFault,

@@ -10,6 +10,7 @@ use Rattle.elf_image.specs.declared.fault.ElfFault.{ElfFault}
 use Rattle.elf_image.specs.declared.fault.ReadElfNo.TheVariants as elf
 use Rattle.rv_run.specs.ImageRun.{Streams}
 use Rattle.rv_run.specs.Machine.{State}
+use Rattle.block_report.specs.declared.live.Live.{Live}
 use Rattle.command_line.specs.Requests.{IsUsable, Listed}
 use Rattle.command_line.specs.declared.request.Request.{Request}
 use Rattle.command_line.specs.declared.request.Request.TheVariants as request
@@ -31,11 +32,13 @@ use Rattle.fsc_commands.specs.Refusing.{IsRejection, RefusesNames, refused_so, e
 use Rattle.fsc_commands.specs.Going.{program_unmade, program_ran, files_refused, files_ran, file_unread, file_ran, file_built}
 use Rattle.fsc_commands.specs.Writing.{Writes, written, unwritten, unheld as write_unheld, files_refused as nothing_built, image_written, file_refused as nothing_compiled, unit_written, no_unit, unit_unheld, RefusesLink, unit_unread, unit_bad, units_refused, link_refused as link_none, link_written}
 use Rattle.fsc_commands.specs.Meaning.{files_refused as meaning_refused, meaning_followed}
+use Rattle.fsc_commands.specs.Reporting.{RanWithReport, Tells, told as list_told, untold as list_untold, unheld as list_unheld, report_refused, report_ran}
 use Rattle.fsc_commands.proofs.Endings.{sorted, cost_named}
 use Rattle.fsc_commands.specs.Demonstrating.{Closes, line_written, line_cut, no_line}
+use Rattle.fsc_commands.proofs.Reports.{ran_of}
 use Rattle.fsc_tool.specs.Words.{AsksRun, AsksUnit, IsOfTexts, IsOfUnits, IsOfProgram, reads_of, NamesToRead, NamesToWrite, MayTouch}
-use Rattle.fsc_tool.specs.Performing.{RefusesWords, unusable, words_unheld, Performed, words_refused, file_asked, files_asked, image_asked, build_asked, compile_asked, link_asked, meaning_asked, demo_refused, demo_ran}
-use Rattle.fsc_tool.specs.Tool.{IsRunOf, none_ran, image_ran, job_ran, files_ran as files_run, file_written, meaning_followed as meaning_run, demo_ran as demo_run, AsksText, AsksLinked}
+use Rattle.fsc_tool.specs.Performing.{RefusesWords, unusable, words_unheld, Performed, words_refused, file_asked, files_asked, image_asked, build_asked, compile_asked, link_asked, meaning_asked, report_asked, demo_refused, demo_ran}
+use Rattle.fsc_tool.specs.Tool.{IsRunOf, none_ran, image_ran, job_ran, files_ran as files_run, file_written, report_ran as report_run, meaning_followed as meaning_run, demo_ran as demo_run, AsksText, AsksLinked}
 use Rattle.fsc_tool.proofs.Asking.{usable}
 use Rattle.fsc_tool.proofs.Reporting.{is_said, reported}
 
@@ -48,6 +51,7 @@ program_units (request.Link image units) is = tt
 program_units (request.Run steps stats image) is = is
 program_units (request.Go steps stats files) is = is
 program_units (request.Mean cost files) is = tt
+program_units (request.Report steps files) is = tt
 program_units (request.Demo count) is = tt
 
 -- a program that is linked is one of texts or of units
@@ -136,6 +140,17 @@ not_bound said wanted cost is same refusal =
     let t : sort_of said ≡ refused = ap sort_of same ∙ refusal in
     cc
 
+-- the ending of a run whose objects are told is its own, or memory was refused
+pub told_end : (machine : State) (at : ℕ) (said ending : Ending) (lives : Option (List Live)) → Tells machine at said ending lives → IsOfSort ran said → IsOfSort ran ending
+told_end machine at said ending lives (list_told found own is lives_are report) run = subst (IsOfSort ran) (sym is) run
+told_end machine at said ending lives (list_untold own is none) run = subst (IsOfSort ran) (sym is) run
+told_end machine at said ending lives (list_unheld own is none) run = inr is
+
+pub reported_run : (image : Image) (steps : ℕ) (ending : Ending) (marks : Option ℕ) (lives : Option (List Live)) (before after : Streams)
+    → RanWithReport image steps ending marks lives before after → IsOfSort ran ending
+reported_run image steps ending marks lives before after run =
+    told_end run.machine _ run.said ending lives run.tells (of_run _ steps _ run.said None before after (ran_of _ run.machine steps run.said before after run.came))
+
 cause : (made : Option Image) (said wanted : Ending) (marks : Option ℕ) (words : List (List ℕ)) (counts : FileCounts) (now : Option FileMap) (kept : Type 0) (before after : Streams)
     → Performed made said marks words counts now kept before after → said ≡ wanted → sort_of wanted ≡ refused → Cause said words counts
 cause made said wanted marks words counts now kept before after (words_refused none why nothing stays) same refusal = of_words said words counts why
@@ -173,6 +188,10 @@ cause made said wanted marks words counts now kept before after (meaning_asked f
       | inr (inl is) ↦ no_text is (inr (request.Mean cost files, asks, tt))
       | inr (inr is) ↦ absurd (not_bound said wanted cost is same refusal)
     ]
+cause made said wanted marks words counts now kept before after (report_asked files steps lives asks (report_refused none no_lives why nothing)) same refusal =
+    of_names said words files (request.Report steps files) counts asks refl tt (inr (request.Report steps files, asks, tt)) why
+cause made said wanted marks words counts now kept before after (report_asked files steps lives asks (report_ran image sound is run)) same refusal =
+    absurd (not_ran said wanted (reported_run image steps said marks lives before after run) same refusal)
 cause made said wanted marks words counts now kept before after (demo_refused count refusal none asks is why nothing) same refusal_sort =
     of_units said words counts refusal (inr (request.Demo count, asks, tt)) is why
 cause made said wanted marks words counts now kept before after (demo_ran count image ended between sound made_is asks unmarked left run closes unread) same refusal =
@@ -359,6 +378,8 @@ usage_said made said marks words counts now kept before after (build_asked image
 usage_said made said marks words counts now kept before after (compile_asked unit file none asks writes nothing) useless = absurd (useless (usable words (request.Compile unit file) asks))
 usage_said made said marks words counts now kept before after (link_asked image units none asks writes nothing) useless = absurd (useless (usable words (request.Link image units) asks))
 usage_said made said marks words counts now kept before after (meaning_asked files cost none asks unmarked means) useless = absurd (useless (usable words (request.Mean cost files) asks))
+usage_said made said marks words counts now kept before after (report_asked files steps lives asks reports) useless =
+    absurd (useless (usable words (request.Report steps files) asks))
 usage_said made said marks words counts now kept before after (demo_refused count refusal none asks is why nothing) useless = absurd (useless (usable words (request.Demo count) asks))
 usage_said made said marks words counts now kept before after (demo_ran count image ended between sound made_is asks unmarked left run closes unread) useless =
     absurd (useless (usable words (request.Demo count) asks))
@@ -395,6 +416,8 @@ bad_image_by made said marks words told kept before after fault offset (files_ru
     absurd (not_run_malformed said fault offset (of_run _ _ _ said marks before after run.runs) same)
 bad_image_by made said marks words told kept before after fault offset (file_written none is name names nothing) same =
     absurd (not_run_malformed said fault offset (inl (ap sort_of is)) same)
+bad_image_by made said marks words told kept before after fault offset (report_run image sound is files steps lives asks run) same =
+    absurd (not_run_malformed said fault offset (reported_run image steps said marks lives before after run) same)
 bad_image_by made said marks words told kept before after fault offset (demo_run image sound is count ended between asks unmarked left run closes unread) same =
     absurd (not_run_malformed said fault offset (closed _ _ _ count ended said _ _ _ after.written run closes) same)
 bad_image_by made said marks words told kept before after fault offset (meaning_run none files cost asks unmarked meant) same =

@@ -25,7 +25,7 @@ use Rattle.fsc_ending.specs.Reporting.{IsUnless}
 use Rattle.fsc_ending.specs.Sort.{ran, sort_of}
 use Rattle.fsc_commands.specs.Writing.{Writes, written, unwritten, unheld, IsImageFile, IsUnitFile, BuildsFiles, files_refused, image_written, CompilesFile, file_refused, unit_written, LinksFiles, link_refused, link_written}
 use Rattle.fsc_tool.specs.Words.{NamesToWrite, writes_of}
-use Rattle.fsc_tool.specs.Performing.{Performed, words_refused, file_asked, files_asked, image_asked, build_asked, compile_asked, link_asked, meaning_asked, demo_refused, demo_ran}
+use Rattle.fsc_tool.specs.Performing.{Performed, words_refused, file_asked, files_asked, image_asked, build_asked, compile_asked, link_asked, meaning_asked, report_asked, demo_refused, demo_ran}
 use Rattle.fsc_tool.specs.Tool.{IsWritten, LeavesFiles}
 use Rattle.fsc_tool.proofs.Asking.{same_request, writes_none}
 use Rattle.fsc_tool.proofs.Performing.{refused_words, refused_units, refused_names, refused_link}
@@ -111,6 +111,8 @@ leaves made said marks words counts now kept before after (link_asked image unit
     of_writes said words image IsImageFile counts now (request.Link image units, asks, refl) writes
 leaves made said marks words counts now kept before after (meaning_asked files cost none asks unmarked means) idle =
     inl (idle (λ name. writes_none words name (request.Mean cost files) asks refl))
+leaves made said marks words counts now kept before after (report_asked files steps lives asks reports) idle =
+    inl (idle (λ name. writes_none words name (request.Report steps files) asks refl))
 leaves made said marks words counts now kept before after (demo_refused count refusal none asks is why nothing) idle =
     inl (idle (λ name. writes_none words name (request.Demo count) asks refl))
 leaves made said marks words counts now kept before after (demo_ran count image ended between sound made_is asks unmarked left run closes unread) idle =
@@ -141,6 +143,7 @@ Did (request.Link image units) said counts now = LinksFiles said image units cou
 Did (request.Run steps stats image) said counts now = Unit {0}
 Did (request.Go steps stats files) said counts now = Unit {0}
 Did (request.Mean cost files) said counts now = Unit {0}
+Did (request.Report steps files) said counts now = Unit {0}
 Did (request.Demo count) said counts now = Unit {0}
 
 did_same : (words : List (List ℕ)) (done asked : Request) (said : Ending) (counts : FileCounts) (now : Option FileMap) → Listed words done → Listed words asked → Did done said counts now
@@ -164,6 +167,8 @@ did made said wanted marks words counts now kept before after (link_asked image 
     did_same words (request.Link image units) asked said counts now listed asks writes
 did made said wanted marks words counts now kept before after (meaning_asked files cost none listed unmarked means) same exit asked asks =
     did_same words (request.Mean cost files) asked said counts now listed asks tt
+did made said wanted marks words counts now kept before after (report_asked files steps lives listed reports) same exit asked asks =
+    did_same words (request.Report steps files) asked said counts now listed asks tt
 did made said wanted marks words counts now kept before after (demo_refused count refusal none listed is why nothing) same exit asked asks =
     did_same words (request.Demo count) asked said counts now listed asks tt
 did made said wanted marks words counts now kept before after (demo_ran count image ended between sound made_is listed unmarked left run closes unread) same exit asked asks =

@@ -23,7 +23,7 @@ use Rattle.fsc_commands.specs.Refusing.{GivesProgram, IsNoProgram, RefusesNames,
 use Rattle.fsc_commands.specs.Going.{program_unmade, program_ran, files_refused, files_ran, file_unread, file_ran, file_built}
 use Rattle.fsc_commands.proofs.Going.{Answers, exits, bound, cut, answers}
 use Rattle.fsc_tool.specs.Words.{Asks}
-use Rattle.fsc_tool.specs.Performing.{unusable, words_unheld, Performed, words_refused, file_asked, files_asked, image_asked, build_asked, compile_asked, link_asked, meaning_asked, demo_refused, demo_ran}
+use Rattle.fsc_tool.specs.Performing.{unusable, words_unheld, Performed, words_refused, file_asked, files_asked, image_asked, build_asked, compile_asked, link_asked, meaning_asked, report_asked, demo_refused, demo_ran}
 use Rattle.fsc_tool.specs.Tool.{Job, IsAsked, IsEnd, IsRefusedText}
 use Rattle.fsc_tool.proofs.Asking.{one_request, not_both, not_several, not_go, no_job, usable, one_text, not_missing}
 
@@ -64,6 +64,8 @@ job_ends made said marks words counts now kept before after job (link_asked imag
     absurd (not_go words (request.Link image units) job.file job.steps other_asks asked.request (λ same. cc))
 job_ends made said marks words counts now kept before after job (meaning_asked files cost none other_asks unmarked means) is_told asked no_fault no_absence no_write =
     absurd (not_go words (request.Mean cost files) job.file job.steps other_asks asked.request (λ same. cc))
+job_ends made said marks words counts now kept before after job (report_asked files steps lives other_asks reports) is_told asked no_fault no_absence no_write =
+    absurd (not_go words (request.Report steps files) job.file job.steps other_asks asked.request (λ same. cc))
 job_ends made said marks words counts now kept before after job (demo_refused count refusal none other_asks is why nothing) is_told asked no_fault no_absence no_write =
     absurd (not_go words (request.Demo count) job.file job.steps other_asks asked.request (λ same. cc))
 job_ends made said marks words counts now kept before after job (demo_ran count image ended between sound made_is other_asks unmarked left run closes unread) is_told asked no_fault no_absence no_write =
@@ -146,6 +148,8 @@ text_said made said marks words counts now kept before after file steps text (li
     absurd (not_go words (request.Link image units) file steps other_asks asks (λ same. cc))
 text_said made said marks words counts now kept before after file steps text (meaning_asked files cost none other_asks unmarked means) is_told asks held nobody =
     absurd (not_go words (request.Mean cost files) file steps other_asks asks (λ same. cc))
+text_said made said marks words counts now kept before after file steps text (report_asked files m lives other_asks reports) is_told asks held nobody =
+    absurd (not_go words (request.Report m files) file steps other_asks asks (λ same. cc))
 text_said made said marks words counts now kept before after file steps text (demo_refused count refusal none other_asks is why nothing) is_told asks held nobody =
     absurd (not_go words (request.Demo count) file steps other_asks asks (λ same. cc))
 text_said made said marks words counts now kept before after file steps text (demo_ran count image ended between sound made_is other_asks unmarked left run closes unread) is_told asks held nobody =

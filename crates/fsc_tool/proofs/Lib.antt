@@ -7,3 +7,4 @@ mod Names
 mod Performing
 mod Promises
 mod Reporting
+mod Telling

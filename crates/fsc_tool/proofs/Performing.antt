@@ -22,9 +22,10 @@ use Rattle.fsc_commands.specs.Refusing.{RefusesNames, refused_so, ending_of_refu
 use Rattle.fsc_commands.specs.Going.{program_unmade, program_ran, files_refused, files_ran, file_unread, file_ran, file_built}
 use Rattle.fsc_commands.specs.Writing.{Writes, written, unwritten, unheld as write_unheld, files_refused as nothing_built, image_written, file_refused as nothing_compiled, unit_written, IsBadUnit, no_unit, unit_unheld, RefusesLink, unit_unread, unit_bad, units_refused, link_refused, link_written}
 use Rattle.fsc_commands.specs.Meaning.{files_refused as meaning_refused, meaning_followed}
+use Rattle.fsc_commands.specs.Reporting.{report_refused, report_ran}
 use Rattle.fsc_tool.specs.Words.{AsksRun, NamesToWrite}
-use Rattle.fsc_tool.specs.Performing.{RefusesWords, unusable, words_unheld, Performed, words_refused, file_asked, files_asked, image_asked, build_asked, compile_asked, link_asked, meaning_asked, demo_refused, demo_ran}
-use Rattle.fsc_tool.specs.Tool.{IsRunOf, none_ran, image_ran, job_ran, files_ran as files_run, file_written, meaning_followed as meaning_run, demo_ran as demo_run}
+use Rattle.fsc_tool.specs.Performing.{RefusesWords, unusable, words_unheld, Performed, words_refused, file_asked, files_asked, image_asked, build_asked, compile_asked, link_asked, meaning_asked, report_asked, demo_refused, demo_ran}
+use Rattle.fsc_tool.specs.Tool.{IsRunOf, none_ran, image_ran, job_ran, files_ran as files_run, file_written, report_ran as report_run, meaning_followed as meaning_run, demo_ran as demo_run}
 use Rattle.fsc_tool.proofs.Asking.{one_run, not_both, not_several, not_files_run, not_run, no_job, usable, one_text, not_missing}
 
 -- ---- refusals
@@ -111,6 +112,10 @@ is_run made said marks words counts now kept before after (meaning_asked files c
     none_ran none (refused_names said files counts why) (unmarked, same, stays)
 is_run made said marks words counts now kept before after (meaning_asked files cost none asks unmarked (meaning_followed meant)) =
     meaning_run none files cost asks unmarked meant
+is_run made said marks words counts now kept before after (report_asked files steps lives asks (report_refused none no_lives why nothing)) =
+    none_ran none (refused_names said files counts why) nothing
+is_run made said marks words counts now kept before after (report_asked files steps lives asks (report_ran image sound is run)) =
+    report_run image sound is files steps lives asks run
 is_run made said marks words counts now kept before after (demo_refused count refusal none asks is why nothing) =
     none_ran none (refused_units said refusal is) nothing
 is_run made said marks words counts now kept before after (demo_ran count image ended between sound made_is asks unmarked left run closes unread) =
@@ -150,6 +155,8 @@ image_runs made said marks words counts now kept before after (link_asked image 
     absurd (not_run words (request.Link image units) file steps stats other_asks asks (λ same. cc))
 image_runs made said marks words counts now kept before after (meaning_asked files cost none other_asks unmarked means) file steps stats bytes is_told asks held =
     absurd (not_run words (request.Mean cost files) file steps stats other_asks asks (λ same. cc))
+image_runs made said marks words counts now kept before after (report_asked files m lives other_asks reports) file steps stats bytes is_told asks held =
+    absurd (not_run words (request.Report m files) file steps stats other_asks asks (λ same. cc))
 image_runs made said marks words counts now kept before after (demo_refused count refusal none other_asks is why nothing) file steps stats bytes is_told asks held =
     absurd (not_run words (request.Demo count) file steps stats other_asks asks (λ same. cc))
 image_runs made said marks words counts now kept before after (demo_ran count image ended between sound made_is other_asks unmarked left run closes unread) file steps stats bytes is_told asks held =

@@ -18,8 +18,8 @@ use Rattle.fsc_ending.specs.declared.ending.Ending.TheVariants.{Exited, StepsUse
 use Rattle.fsc_ending.specs.Reporting.{IsUnless}
 use Rattle.fsc_ending.specs.Sort.{ran, refused, sort_of, IsOfSort}
 use Rattle.fsc_commands.proofs.Going.{Answers, exits, bound, cut, answers}
-use Rattle.fsc_tool.specs.Words.{NamesToWrite}
-use Rattle.fsc_tool.specs.Tool.{Job, IsAsked, IsImageRun, IsRunOf, none_ran, image_ran, job_ran, files_ran, file_written, meaning_followed, demo_ran, AppendsAtLeast}
+use Rattle.fsc_tool.specs.Words.{AsksReport, NamesToWrite}
+use Rattle.fsc_tool.specs.Tool.{Job, IsAsked, IsImageRun, IsRunOf, none_ran, image_ran, job_ran, files_ran, file_written, report_ran, meaning_followed, demo_ran, AppendsAtLeast}
 use Rattle.fsc_tool.proofs.Asking.{one_job, not_both, writes_none, not_go}
 use Rattle.fsc_tool.proofs.Reporting.{is_said}
 
@@ -62,13 +62,16 @@ no_image_run : (said : Ending) (marks : Option ℕ) (words : List (List ℕ)) (t
     → IsAsked words told job → IsImageRun said marks words told kept before after → ⊥
 no_image_run said marks words told kept before after job asked run = not_both words job.file run.file job.steps run.steps run.stats asked.request run.request
 
--- words that ask for a job ask for no file to be written, for no meaning and for no demonstration
+-- words that ask for a job ask for no file to be written, for no meaning, no report and no demonstration
 no_file : (words : List (List ℕ)) (told : Option FileMap) (job : Job) (name : List ℕ) → IsAsked words told job → NamesToWrite words name → ⊥
 no_file words told job name asked names =
     writes_none words name (request.Go job.steps asked.request.0 (job.file ∷ [])) asked.request.1 refl names
 
 no_meaning : (words files : List (List ℕ)) (told : Option FileMap) (job : Job) (cost : ℕ) → IsAsked words told job → Listed words (request.Mean cost files) → ⊥
 no_meaning words files told job cost asked asks = not_go words (request.Mean cost files) job.file job.steps asks asked.request (λ same. cc)
+
+no_report : (words files : List (List ℕ)) (told : Option FileMap) (job : Job) (steps : ℕ) → IsAsked words told job → AsksReport words files steps → ⊥
+no_report words files told job steps asked asks = not_go words (request.Report steps files) job.file job.steps asks asked.request (λ same. cc)
 
 no_demo : (words : List (List ℕ)) (told : Option FileMap) (job : Job) (count : ℕ) → IsAsked words told job → Listed words (request.Demo count) → ⊥
 no_demo words told job count asked asks = not_go words (request.Demo count) job.file job.steps asks asked.request (λ same. cc)
@@ -92,6 +95,8 @@ prefix made said marks words told kept before after (files_ran image is run) job
 prefix made said marks words told kept before after (file_written none is name names nothing) job is_told asked = absurd (no_file words told job name asked names)
 prefix made said marks words told kept before after (meaning_followed none files cost asks unmarked meant) job is_told asked =
     absurd (no_meaning words files told job cost asked asks)
+prefix made said marks words told kept before after (report_ran image sound is files steps lives asks run) job is_told asked =
+    absurd (no_report words files told job steps asked asks)
 prefix made said marks words told kept before after (demo_ran image sound is count ended between asks unmarked left run closes unread) job is_told asked =
     absurd (no_demo words told job count asked asks)
 prefix made said marks words told kept before after (job_ran image is other other_asked writes run not_read left) job is_told asked =
@@ -121,6 +126,8 @@ exited ending made said marks words told kept before after report (file_written 
     absurd (no_file words told job name asked names)
 exited ending made said marks words told kept before after report (meaning_followed none files cost asks unmarked meant) job status is_told asked is =
     absurd (no_meaning words files told job cost asked asks)
+exited ending made said marks words told kept before after report (report_ran image sound made_is files steps lives asks run) job status is_told asked is =
+    absurd (no_report words files told job steps asked asks)
 exited ending made said marks words told kept before after report (demo_ran image sound made_is count ended between asks unmarked left run closes unread) job status is_told asked is =
     absurd (no_demo words told job count asked asks)
 exited ending made said marks words told kept before after report (job_ran image made_is other other_asked writes run not_read left) job status is_told asked is =
@@ -153,6 +160,8 @@ steps_used ending made said marks words told kept before after report (file_writ
     absurd (no_file words told job name asked names)
 steps_used ending made said marks words told kept before after report (meaning_followed none files cost asks unmarked meant) job n is_told asked is =
     absurd (no_meaning words files told job cost asked asks)
+steps_used ending made said marks words told kept before after report (report_ran image sound made_is files steps lives asks run) job n is_told asked is =
+    absurd (no_report words files told job steps asked asks)
 steps_used ending made said marks words told kept before after report (demo_ran image sound made_is count ended between asks unmarked left run closes unread) job n is_told asked is =
     absurd (no_demo words told job count asked asks)
 steps_used ending made said marks words told kept before after report (job_ran image made_is other other_asked writes run not_read left) job n is_told asked is =

@@ -1,12 +1,18 @@
 -- What was said, and what the notes put in its place.
-use Rattle.std.proofs.Common.{◌≡◌, ℕ, ◌⊎◌, inl, inr, List, Option, sym, ◌∙◌}
+use Rattle.std.proofs.Common.{◌≡◌, ℕ, ◌⊎◌, inl, inr, List, Option, None, sym, subst, ◌∙◌}
+use Rattle.block_report.specs.declared.live.Live.{Live}
 use Rattle.fsc_ending.specs.declared.ending.Ending.{Ending}
 use Rattle.fsc_ending.specs.declared.ending.Ending.TheVariants.{NoteFault, NoMemory}
 use Rattle.fsc_ending.specs.Reporting.{IsUnless, IsReported}
 
-pub unless : (said ending : Ending) (marks : Option ℕ) (before after : Option (List ℕ)) → IsReported said marks ending before after → IsUnless said ending
-unless said ending marks before after (inl (is, whole)) = inl is
-unless said ending marks before after (inr (unsaid, part)) = inr unsaid
+pub unless : (said ending : Ending) (marks : Option ℕ) (lives : Option (List Live)) (before after : Option (List ℕ)) → IsReported said marks lives ending before after → IsUnless said ending
+unless said ending marks lives before after (inl (is, whole)) = inl is
+unless said ending marks lives before after (inr (unsaid, part)) = inr unsaid
+
+-- what was reported where no objects were told
+pub no_lives : (said answer : Ending) (marks : Option ℕ) (lives : Option (List Live)) (before after : Option (List ℕ)) → lives ≡ None
+    → IsReported said marks lives answer before after → IsReported said marks None answer before after
+no_lives said answer marks lives before after none is = subst (λ (l : Option (List Live)). IsReported said marks l answer before after) none is
 
 -- the answer where the notes took no other's place
 pub is_said : (said ending wanted : Ending) → IsUnless said ending → ending ≡ wanted → (wanted ≡ NoteFault → ⊥) → (wanted ≡ NoMemory → ⊥) → said ≡ wanted

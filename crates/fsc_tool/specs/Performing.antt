@@ -6,6 +6,7 @@ use Rattle.fsc_outside.specs.Calls.{FileCounts}
 use Rattle.fsc_outside.specs.FileMap.{FileMap}
 use Rattle.rv_run.specs.Machine.{start_of}
 use Rattle.rv_run.specs.ImageRun.{Streams}
+use Rattle.block_report.specs.declared.live.Live.{Live}
 use Rattle.command_line.specs.Requests.{IsUsable, Listed}
 use Rattle.command_line.specs.declared.request.Request.TheVariants as request
 use Rattle.fsc_ending.specs.declared.ending.Ending.{Ending}
@@ -17,8 +18,9 @@ use Rattle.fsc_commands.specs.Refusing.{ending_of_refusal}
 use Rattle.fsc_commands.specs.Going.{RunsFiles, RunsFile}
 use Rattle.fsc_commands.specs.Writing.{BuildsFiles, CompilesFile, LinksFiles}
 use Rattle.fsc_commands.specs.Meaning.{MeansFiles}
+use Rattle.fsc_commands.specs.Reporting.{ReportsFiles}
 use Rattle.fsc_commands.specs.Demonstrating.{most_steps, without_input, Closes}
-use Rattle.fsc_tool.specs.Words.{AsksFiles, AsksWith, AsksRun}
+use Rattle.fsc_tool.specs.Words.{AsksFiles, AsksWith, AsksReport, AsksRun}
 
 -- what the words are that ask for no run
 pub data RefusesWords (ending : Ending) (words : List (List ℕ)) : Type 0 where
@@ -42,6 +44,8 @@ pub data Performed (made : Option Image) (ending : Ending) (marks : Option ℕ) 
       → LinksFiles ending image units counts now → RanNothing marks kept before after → Performed made ending marks words counts now kept before after
   meaning_asked : (files : List (List ℕ)) (cost : ℕ) → made ≡ None → Listed words (request.Mean cost files) → marks ≡ None
       → MeansFiles ending files cost counts kept before after → Performed made ending marks words counts now kept before after
+  report_asked : (files : List (List ℕ)) (steps : ℕ) (lives : Option (List Live)) → AsksReport words files steps
+      → ReportsFiles made ending marks lives files steps counts kept before after → Performed made ending marks words counts now kept before after
   demo_refused : (count : ℕ) (no : CoreNo) → made ≡ None → Listed words (request.Demo count) → ending ≡ ending_of_refusal no → RefusesUnits no
       → RanNothing marks kept before after → Performed made ending marks words counts now kept before after
   demo_ran : (count : ℕ) (image : Image) (said : Ending) (between : Option (List ℕ)) → IsSound image → made ≡ Some image → Listed words (request.Demo count) → marks ≡ None

@@ -12,6 +12,7 @@ use Rattle.fsc_outside.specs.Streams.{Appends}
 use Rattle.elf_image.specs.Reading.{image_at}
 use Rattle.rv_run.specs.Machine.{start_of}
 use Rattle.rv_run.specs.ImageRun.{Streams}
+use Rattle.block_report.specs.declared.live.Live.{Live}
 use Rattle.plain_text.specs.declared.program.Program.{Program}
 use Rattle.plain_text.specs.Program.{IsPlain}
 use Rattle.fsc_ending.specs.declared.ending.Ending.{Ending}
@@ -23,11 +24,12 @@ use Rattle.fsc_run.specs.Running.{RanFrom, RanNothing, RunsImage}
 use Rattle.fsc_commands.specs.Going.{IsImageOf}
 use Rattle.fsc_commands.specs.Refusing.{IsNoProgram}
 use Rattle.fsc_commands.specs.Meaning.{IsMeant}
+use Rattle.fsc_commands.specs.Reporting.{RanWithReport}
 use Rattle.command_line.specs.Requests.{Listed}
 use Rattle.command_line.specs.declared.request.Request.{Request}
 use Rattle.command_line.specs.declared.request.Request.TheVariants as request
 use Rattle.fsc_commands.specs.Demonstrating.{most_steps, without_input, Closes}
-use Rattle.fsc_tool.specs.Words.{Asks, AsksFiles, AsksRun, AsksUnits, NamesToWrite, TakesInput, IsOfProgram}
+use Rattle.fsc_tool.specs.Words.{Asks, AsksFiles, AsksReport, AsksRun, AsksUnits, NamesToWrite, TakesInput, IsOfProgram}
 
 -- ---- runs
 
@@ -67,7 +69,8 @@ pub record IsFilesRun (image : Image) (ending : Ending) (marks : Option ℕ) (wo
 -- Either nothing was made and nothing ran; or nothing was made, and the image of a file ran; or the image that was made is
 -- that of a job that is asked for, and it ran; or it was made of the files that the words ask for, and it ran; or a file was written
 -- that the words name, and nothing was made and nothing ran; or nothing was made, and the meaning of files was followed; or the image
--- that was made is that of the demonstration, and it ran on no input, and its line was written.
+-- that was made is that of the demonstration, and it ran on no input, and its line was written; or the image was made of files that the
+-- words ask a report of, and it ran.
 pub data IsRunOf (made : Option Image) (ending : Ending) (marks : Option ℕ) (words : List (List ℕ)) (told : Option FileMap) (kept : Type 0) (before after : Streams) : Type 0 where
   none_ran : made ≡ None → IsOfSort refused ending → RanNothing marks kept before after → IsRunOf made ending marks words told kept before after
   image_ran : made ≡ None → IsImageRun ending marks words told kept before after → IsRunOf made ending marks words told kept before after
@@ -80,8 +83,17 @@ pub data IsRunOf (made : Option Image) (ending : Ending) (marks : Option ℕ) (w
   demo_ran : (image : Image) → IsSound image → made ≡ Some image → (count : ℕ) (said : Ending) (between : Option (List ℕ)) → Listed words (request.Demo count) → marks ≡ None
       → after.left ≡ before.left → RanFrom (start_of image) most_steps false said None (without_input before.written) (without_input between)
       → Closes count said ending between after.written → ending ≢ ReadFault → IsRunOf made ending marks words told kept before after
+  report_ran : (image : Image) → IsSound image → made ≡ Some image → (files : List (List ℕ)) (steps : ℕ) (lives : Option (List Live)) → AsksReport words files steps
+      → RanWithReport image steps ending marks lives before after → IsRunOf made ending marks words told kept before after
   meaning_followed : made ≡ None → (files : List (List ℕ)) (cost : ℕ) → Listed words (request.Mean cost files) → marks ≡ None → IsMeant ending cost
       → IsRunOf made ending marks words told kept before after
+
+-- Which objects are told: those that are alive in the memory that the run of the image left which was made of files that the words
+-- ask a report of; where nothing was made of such files, or the words ask for something else, none.
+pub data IsTold (made : Option Image) (ending : Ending) (marks : Option ℕ) (lives : Option (List Live)) (words : List (List ℕ)) (before after : Streams) : Type 0 where
+  none_told : lives ≡ None → ((files : List (List ℕ)) (steps : ℕ) → AsksReport words files steps → made ≡ None) → IsTold made ending marks lives words before after
+  run_told : (files : List (List ℕ)) (steps : ℕ) → AsksReport words files steps → (image : Image) → made ≡ Some image
+      → RanWithReport image steps ending marks lives before after → IsTold made ending marks lives words before after
 
 -- ---- answers
 

@@ -16,6 +16,10 @@ AsksWith words file steps stats = AsksFiles words (file ∷ []) steps stats
 abbrev pub Asks : List (List ℕ) → (file : List ℕ) (steps : ℕ) → Type 0
 Asks words file steps = (stats : Bool) × AsksWith words file steps stats
 
+-- `report` of these files, of at most so many instructions
+abbrev pub AsksReport : List (List ℕ) → (files : List (List ℕ)) (steps : ℕ) → Type 0
+AsksReport words files steps = Listed words (request.Report steps files)
+
 -- `run` of this image, of at most so many instructions
 abbrev pub AsksRun : List (List ℕ) → (image : List ℕ) (steps : ℕ) (stats : Bool) → Type 0
 AsksRun words image steps stats = Listed words (request.Run steps stats image)
@@ -28,6 +32,7 @@ reads_of (request.Link image units) = units
 reads_of (request.Run steps stats image) = image ∷ []
 reads_of (request.Go steps stats files) = files
 reads_of (request.Mean cost files) = files
+reads_of (request.Report steps files) = files
 reads_of (request.Demo count) = []
 
 -- the file that it writes
@@ -38,6 +43,7 @@ writes_of (request.Link image units) = Some image
 writes_of (request.Run steps stats image) = None
 writes_of (request.Go steps stats files) = None
 writes_of (request.Mean cost files) = None
+writes_of (request.Report steps files) = None
 writes_of (request.Demo count) = None
 
 -- it reads texts of C, which may include others
@@ -48,6 +54,7 @@ IsOfTexts (request.Link image units) = ⊥
 IsOfTexts (request.Run steps stats image) = ⊥
 IsOfTexts (request.Go steps stats files) = Unit {0}
 IsOfTexts (request.Mean cost files) = Unit {0}
+IsOfTexts (request.Report steps files) = Unit {0}
 IsOfTexts (request.Demo count) = ⊥
 
 -- it makes a program or a unit, and is no `go` with one file
@@ -58,6 +65,7 @@ IsOfUnits (request.Link image units) = Unit {0}
 IsOfUnits (request.Run steps stats image) = ⊥
 IsOfUnits (request.Go steps stats files) = length files ≢ 1
 IsOfUnits (request.Mean cost files) = Unit {0}
+IsOfUnits (request.Report steps files) = Unit {0}
 IsOfUnits (request.Demo count) = Unit {0}
 
 -- it makes a program, and is no `go` with one file
@@ -68,12 +76,13 @@ IsOfProgram (request.Link image units) = Unit {0}
 IsOfProgram (request.Run steps stats image) = ⊥
 IsOfProgram (request.Go steps stats files) = length files ≢ 1
 IsOfProgram (request.Mean cost files) = Unit {0}
+IsOfProgram (request.Report steps files) = Unit {0}
 IsOfProgram (request.Demo count) = Unit {0}
 
 abbrev pub AsksUnits : List (List ℕ) → Type 0
 AsksUnits words = (asked : Request) × Listed words asked × IsOfUnits asked
 
--- its program takes from the input: a run of an image, of files that are no one file, or of a meaning
+-- its program takes from the input: a run of an image, of files that are no one file, of a meaning, or one that is reported
 abbrev pub TakesInput : Request → Type 0
 TakesInput (request.Build image files) = ⊥
 TakesInput (request.Compile unit file) = ⊥
@@ -81,6 +90,7 @@ TakesInput (request.Link image units) = ⊥
 TakesInput (request.Run steps stats image) = Unit {0}
 TakesInput (request.Go steps stats files) = length files ≢ 1
 TakesInput (request.Mean cost files) = Unit {0}
+TakesInput (request.Report steps files) = Unit {0}
 TakesInput (request.Demo count) = ⊥
 
 -- the file is one to be read

@@ -20,6 +20,7 @@ ghost use Rattle.elf_image.specs.declared.fault.ReadElfNo.TheVariants.{Bad};
 ghost use Rattle.elf_image.specs.Writing.{elf_of};
 ghost use Rattle.fsc_base.specs.declared.image.Image.{Image};
 ghost use Rattle.fsc_base.specs.Image.{IsSound};
+ghost use Rattle.block_report.specs.declared.live.Live.{Live};
 ghost use Rattle.command_line.specs.Requests.{IsUsable, Listed};
 ghost use Rattle.command_line.specs.declared.request.Request.TheVariants.{Build, Compile, Link, Mean};
 ghost use Rattle.fsc_ending.specs.Reporting.{IsUnless, IsReported};
@@ -27,17 +28,19 @@ ghost use Rattle.fsc_run.specs.Running.{streams_of, RanNothing, RunsImage};
 ghost use Rattle.fsc_commands.specs.Refusing.{IsNoProgram, IsRejection};
 ghost use Rattle.fsc_tool.specs.Words.{Asks, AsksRun, AsksUnit, NamesToRead, NamesToWrite, MayTouch};
 ghost use Rattle.fsc_tool.specs.Performing.{Performed};
-ghost use Rattle.fsc_tool.specs.Tool.{Job, IsAsked, IsRunOf, AppendsAtLeast, LeavesFiles, IsEnd, IsRefusedText, AsksText, AsksLinked, AsksInput};
+ghost use Rattle.fsc_tool.specs.Tool.{Job, IsAsked, IsRunOf, IsTold, AppendsAtLeast, LeavesFiles, IsEnd, IsRefusedText, AsksText, AsksLinked, AsksInput};
 
+use block_report::Lives;
 use command_line::{Request, WordsNo, request_of};
 use fsc_base::{Image, Name};
-use fsc_commands::{build_file, compile_file, demo, go, go_units, link_files, mean};
+use fsc_commands::{build_file, compile_file, demo, go, go_units, link_files, mean, report_files};
 use fsc_ending::{Ending, Form, report};
 use fsc_outside::{Files, Sink, Source};
 use fsc_run::{Done, run_file};
 use std::alloc::Global;
 
 /// Does what the words ask for, before the lines of notes.
+#[tactic(auto, using(crate::proofs::Telling::told_unmade))]
 fn perform<F: Files, S: Source, O: Sink>(
     alloc: Global,
     words: &[Name],
@@ -45,10 +48,12 @@ fn perform<F: Files, S: Source, O: Sink>(
     input: &mut S,
     out: &mut O,
     made: &mut Option<Image>,
+    lives: &mut Option<Lives>,
 ) -> Done
     requires { made.old ≡ None }
     ensures performed { Performed made.new result.ending result.marks words.now (counts_of F.Files files.old files.new) (F.contents files.new)
         ((input.new ≡ input.old) × (out.new ≡ out.old)) (streams_of S.Source O.Sink input.old out.old) (streams_of S.Source O.Sink input.new out.new) }
+    ensures told { IsTold made.new result.ending result.marks lives.new words.now (streams_of S.Source O.Sink input.old out.old) (streams_of S.Source O.Sink input.new out.new) }
     ensures read_failed { result.ending ≡ Ending.ReadFault → Rose (S.fault_count input.old) (S.fault_count input.new) }
     ensures write_failed { result.ending ≡ Ending.WriteFault → Rose (O.fault_count out.old) (O.fault_count out.new) }
     ensures unnoted { result.ending ≢ Ending.NoteFault }
@@ -60,6 +65,7 @@ fn perform<F: Files, S: Source, O: Sink>(
     ensures write_counted { O.fault_count out.old ≤ O.fault_count out.new }
     ensures untouched { (AsksInput words.now (F.contents files.old) → ⊥) → input.new ≡ input.old }
 {
+    *lives = None;
     match request_of(alloc, words) {
         Ok(
             Request::Go {
@@ -97,6 +103,23 @@ fn perform<F: Files, S: Source, O: Sink>(
         Ok(Request::Mean { cost, files: names }) => {
             Done::without_run(mean(alloc, names.as_slice(), cost, files, input, out))
         }
+        Ok(
+            Request::Report {
+                steps,
+                files: names,
+            },
+        ) => {
+            report_files(
+                alloc,
+                names.as_slice(),
+                steps,
+                files,
+                input,
+                out,
+                made,
+                lives,
+            )
+        }
         Ok(Request::Demo { count }) => Done::without_run(demo(alloc, count, out, made)),
         Err(WordsNo::Usage) => Done::without_run(Ending::Usage),
         Err(WordsNo::NoMemory) => Done::without_run(Ending::NoMemory),
@@ -105,13 +128,15 @@ fn perform<F: Files, S: Source, O: Sink>(
 
 /// Does what the words ask for. It takes the words after the program's name, the files to read, the input and the
 /// output of the program that is run, and where to write the lines of notes; it gives how that ended, and leaves in
-/// `made` the image that `go` ran, or None.
+/// `made` the image that `go`, `report` or `demo` ran, or None.
 ///
 /// `go [--steps N] [--stats] FILE..` runs the files' program and `run [--steps N] [--stats] IMAGE` the image in a file, at
 /// most 10^10 or N instructions of it. With `--stats` the line `methods M` tells how many marks were run. `build -o IMAGE FILE..`
 /// writes the image of the files' program, `compile -o UNIT FILE` the unit of a file and `link -o IMAGE UNIT..` the image of
-/// the units' program; `mean [--cost K] FILE..` follows the meaning of the files' program up to a cost of 10^9 or K, and `demo N` runs the
-/// program of the demonstration of N functions. All files but the one that is to be written stay as they were. Where memory is refused the answer is `NoMemory`, at any place.
+/// the units' program; `mean [--cost K] FILE..` follows the meaning of the files' program up to a cost of 10^9 or K;
+/// `report [--steps N] FILE..` runs the files' program as `go` and then tells its objects that are alive, a line each, where it was the
+/// program that ended its run; and `demo N` runs the program of the demonstration of N functions. All files but the one that is to be
+/// written stay as they were. Where memory is refused the answer is `NoMemory`, at any place.
 pub fn tool<F: Files, S: Source, O: Sink, E: Sink>(
     alloc: Global,
     words: &[Name],
@@ -121,15 +146,16 @@ pub fn tool<F: Files, S: Source, O: Sink, E: Sink>(
     notes: &mut E,
     made: &mut Option<Image>,
 ) -> Ending
-    // The answer, the marks, what was taken and what was written are those of the run of an image, and of no other;
-    // without one the input and the output are as they were.
-    ensures run { (said : Ending) × (marks : Option ℕ) × IsReported said marks result (E.written notes.old) (E.written notes.new)
-        × IsRunOf made.new said marks words.now (F.contents files.old) ((input.new ≡ input.old) × (out.new ≡ out.old)) (streams_of S.Source O.Sink input.old out.old) (streams_of S.Source O.Sink input.new out.new) }
+    // The answer, the marks, the objects that are told, what was taken and what was written are those of the run of an image, and of no
+    // other; without one the input and the output are as they were.
+    ensures run { (said : Ending) × (marks : Option ℕ) × (lives : Option (List Live)) × IsReported said marks lives result (E.written notes.old) (E.written notes.new)
+        × IsRunOf made.new said marks words.now (F.contents files.old) ((input.new ≡ input.old) × (out.new ≡ out.old)) (streams_of S.Source O.Sink input.old out.old) (streams_of S.Source O.Sink input.new out.new)
+        × IsTold made.new said marks lives words.now (streams_of S.Source O.Sink input.old out.old) (streams_of S.Source O.Sink input.new out.new) }
     // `run` of a told file answers, writes and leaves of the input what the run of the image of its bytes does, and
     // tells its marks; or the file could not be read.
     ensures image { (file : List ℕ) (steps : ℕ) (stats : Bool) (bytes : List ℕ) → IsSome (F.contents files.old) →
         AsksRun words.now file steps stats → Holds (F.contents files.old) file (Some bytes) →
-        (said : Ending) × (marks : Option ℕ) × IsReported said marks result (E.written notes.old) (E.written notes.new)
+        (said : Ending) × (marks : Option ℕ) × IsReported said marks None result (E.written notes.old) (E.written notes.new)
         × (RunsImage (image_at bytes) steps stats said marks ((input.new ≡ input.old) × (out.new ≡ out.old)) (streams_of S.Source O.Sink input.old out.old) (streams_of S.Source O.Sink input.new out.new)
         ⊎ ((said ≡ Ending.FileFault file) × Rose (F.fault_count files.old) (F.fault_count files.new) × RanNothing marks ((input.new ≡ input.old) × (out.new ≡ out.old)) (streams_of S.Source O.Sink input.old out.old) (streams_of S.Source O.Sink input.new out.new))) }
 
@@ -197,6 +223,7 @@ pub fn tool<F: Files, S: Source, O: Sink, E: Sink>(
     ensures notes_counted { E.fault_count notes.old ≤ E.fault_count notes.new }
 {
     *made = None;
-    let done = perform(alloc, words, files, input, out, made);
-    report(alloc, notes, done.ending, done.marks)
+    let mut lives = None;
+    let done = perform(alloc, words, files, input, out, made, &mut lives);
+    report(alloc, notes, done.ending, done.marks, lives)
 }

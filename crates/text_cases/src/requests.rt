@@ -52,6 +52,7 @@ fn line_of(alloc: Global, request: &Request) -> Result<String, AllocError> {
             files,
         } => joined(format!(in alloc; "go {steps} {stats}")?, files),
         Request::Mean { cost, files } => joined(format!(in alloc; "mean {cost}")?, files),
+        Request::Report { steps, files } => joined(format!(in alloc; "report {steps}")?, files),
         Request::Demo { count } => format!(in alloc; "demo {count}"),
     }
 }

@@ -8,10 +8,11 @@ use Rattle.fsc_run.specs.Running.{streams_of}
 use Rattle.fsc_commands.specs.Writing.{BuildsFiles, CompilesFile, LinksFiles}
 use Rattle.fsc_commands.specs.Meaning.{MeansFiles}
 use Rattle.fsc_commands.specs.Demonstrating.{RunsDemo}
-use Rattle.fsc_tool.specs.Performing.{file_asked, files_asked, image_asked, build_asked, compile_asked, link_asked, meaning_asked}
+use Rattle.fsc_tool.specs.Performing.{file_asked, files_asked, image_asked, build_asked, compile_asked, link_asked, meaning_asked, report_asked}
 use Rattle.fsc_tool.proofs.Demonstrations.{of_demo}
 use Rattle.fsc_tool.proofs.Files.{builds_keep, compiles_keep, links_keep, keeps_named}
 use Rattle.fsc_tool.proofs.Names.{one_name}
+use Rattle.fsc_tool.proofs.Telling.{told_other, told_report}
 use Rattle.fsc_tool.proofs.top_call.perform.Goals as goal
 
 pub returns-then-names-eq1-clause-performed : goal.returns-then-names-eq1-clause-performed
@@ -101,3 +102,39 @@ returns-in-Ok-Demo-clause-performed g c =
     (λ is. c.demo.ensures.unread (sym c.without_run-in-Ok-Demo.ensures.ending ∙ is))
     (λ same. (refl, same))
     (subst (λ (e : Ending). RunsDemo c.demo.new.made e c.in-Ok-Demo.count (c.demo.new.out ≡ c.args.out.now) (g.O.Sink.written c.args.out.now) (g.O.Sink.written c.demo.new.out)) (sym c.without_run-in-Ok-Demo.ensures.ending) c.demo.ensures.ran)
+
+pub returns-in-Ok-Report-clause-performed : goal.returns-in-Ok-Report-clause-performed
+returns-in-Ok-Report-clause-performed g c =
+    report_asked c.as_slice-in-Ok-Report.result.now c.in-Ok-Report.steps _
+    (subst (λ (asked : Request). Listed c.args.words.now asked) (c.in-Ok-Report.field-0-is ∙ ap (λ (names : List (List ℕ)). request.Report c.in-Ok-Report.steps names) (sym c.as_slice-in-Ok-Report.ensures)) c.in-Ok-Report.ensures.found)
+    c.report_files.ensures.ran
+
+pub returns-in-Ok-Report-clause-told : goal.returns-in-Ok-Report-clause-told
+returns-in-Ok-Report-clause-told g c =
+    told_report _ _ _ _ _ c.as_slice-in-Ok-Report.result.now c.in-Ok-Report.steps _ _ _ _
+    (subst (λ (asked : Request). Listed c.args.words.now asked) (c.in-Ok-Report.field-0-is ∙ ap (λ (names : List (List ℕ)). request.Report c.in-Ok-Report.steps names) (sym c.as_slice-in-Ok-Report.ensures)) c.in-Ok-Report.ensures.found)
+    c.report_files.ensures.ran
+
+pub returns-then-names-eq1-clause-told : goal.returns-then-names-eq1-clause-told
+returns-then-names-eq1-clause-told g c =
+    told_other _ _ _ _ _ _ (request.Go c.in-Ok-Go.steps c.in-Ok-Go.stats c.as_slice-names.result.now)
+    (subst (λ (asked : Request). Listed c.args.words.now asked) (c.in-Ok-Go.field-0-is ∙ ap (λ (names : List (List ℕ)). request.Go c.in-Ok-Go.steps c.in-Ok-Go.stats names) (sym c.as_slice-names.ensures)) c.in-Ok-Go.ensures.found)
+    refl
+
+pub returns-in-Ok-Go-clause-told : goal.returns-in-Ok-Go-clause-told
+returns-in-Ok-Go-clause-told g c =
+    told_other _ _ _ _ _ _ (request.Go c.in-Ok-Go.steps c.in-Ok-Go.stats c.as_slice-names.result.now)
+    (subst (λ (asked : Request). Listed c.args.words.now asked) (c.in-Ok-Go.field-0-is ∙ ap (λ (names : List (List ℕ)). request.Go c.in-Ok-Go.steps c.in-Ok-Go.stats names) (sym c.as_slice-names.ensures)) c.in-Ok-Go.ensures.found)
+    refl
+
+pub returns-in-Ok-Run-clause-told : goal.returns-in-Ok-Run-clause-told
+returns-in-Ok-Run-clause-told g c =
+    told_other _ _ _ _ _ _ (request.Run c.in-Ok-Run.steps c.in-Ok-Run.stats c.in-Ok-Run.image)
+    (subst (λ (asked : Request). Listed c.args.words.now asked) c.in-Ok-Run.field-0-is c.in-Ok-Run.ensures.found)
+    refl
+
+pub returns-in-Ok-Demo-clause-told : goal.returns-in-Ok-Demo-clause-told
+returns-in-Ok-Demo-clause-told g c =
+    told_other _ _ _ _ _ _ (request.Demo c.in-Ok-Demo.count)
+    (subst (λ (asked : Request). Listed c.args.words.now asked) c.in-Ok-Demo.field-0-is c.in-Ok-Demo.ensures.found)
+    refl
