@@ -39,7 +39,7 @@ fn is_own_end(ending: &Ending) -> bool
 }
 
 /// Tells the objects that are alive in the memory that a run left, where its program ended it.
-#[tactic(auto, using(crate::proofs::Reports::tells_found, crate::proofs::Reports::tells_none, crate::proofs::Reports::tells_unheld))]
+#[tactic(auto, using(crate::proofs::Reports::tells_none, crate::proofs::Reports::tells_unheld))]
 fn tell(
     alloc: Global,
     machine: &Machine,

@@ -475,6 +475,8 @@ cost_by made said marks words told kept before after k (job_ran image is job ask
     absurd (ran_costless said k (of_run _ _ _ said marks before after run) same)
 cost_by made said marks words told kept before after k (files_run image is run) same = absurd (ran_costless said k (of_run _ _ _ said marks before after run.runs) same)
 cost_by made said marks words told kept before after k (file_written none is name names nothing) same = absurd (ran_costless said k (inl (ap sort_of is)) same)
+cost_by made said marks words told kept before after k (report_run image sound is files steps lives asks run) same =
+    absurd (ran_costless said k (reported_run image steps said marks lives before after run) same)
 cost_by made said marks words told kept before after k (demo_run image sound is count ended between asks unmarked left run closes unread) same =
     absurd (ran_costless said k (closed _ _ _ count ended said _ _ _ after.written run closes) same)
 cost_by made said marks words told kept before after k (meaning_run none files cost asks unmarked meant) same =

@@ -1,5 +1,5 @@
 -- Which objects are told.
-use Rattle.std.proofs.Common.{◌≡◌, ℕ, List, Bool, true, false, Option, Some, None, refl, ap, sym, ◌∙◌}
+use Rattle.std.proofs.Common.{◌≡◌, ℕ, List, Bool, true, false, Option, None, refl, ap, sym, ◌∙◌}
 use Rattle.fsc_base.specs.declared.image.Image.{Image}
 use Rattle.rv_run.specs.ImageRun.{Streams}
 use Rattle.block_report.specs.declared.live.Live.{Live}

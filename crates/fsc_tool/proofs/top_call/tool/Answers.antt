@@ -31,7 +31,7 @@ pub returns-clause-steps_used : goal.returns-clause-steps_used
 returns-clause-steps_used g c = steps_used _ _ _ _ _ _ _ _ _ (unless _ _ _ _ _ _ c.report.ensures.reported) (is_run _ _ _ _ _ _ _ _ _ c.perform-done.ensures.performed)
 
 pub returns-clause-cost_used : goal.returns-clause-cost_used
-returns-clause-cost_used g c = cost_used _ _ _ _ _ _ _ _ _ (is_run _ _ _ _ _ _ _ _ _ c.perform-done.ensures.performed) (unless _ _ _ _ _ c.report.ensures.reported)
+returns-clause-cost_used g c = cost_used _ _ _ _ _ _ _ _ _ (is_run _ _ _ _ _ _ _ _ _ c.perform-done.ensures.performed) (unless _ _ _ _ _ _ c.report.ensures.reported)
 
 pub returns-clause-bad_image : goal.returns-clause-bad_image
 returns-clause-bad_image g c = bad_image _ _ _ _ _ _ _ _ _ (is_run _ _ _ _ _ _ _ _ _ c.perform-done.ensures.performed) (unless _ _ _ _ _ _ c.report.ensures.reported)
