@@ -5,8 +5,8 @@
 
 PROGRAM is the built `fsc`. Printed are, for each file, the processor time of `fsc go`, of compiling and running with `gcc -O0
 -fsanitize=address` where that is installed, and of running what `gcc -O0` made under valgrind where that is; the instructions that the image
-runs, and how many times as many as those of `gcc -O0` for RV32IM where `riscv64-unknown-elf-gcc` and `qemu-riscv32` are installed; and
-whether `link` of the compiled unit writes the bytes of `build`.
+runs, to a thousandth, and how many times as many as those of `gcc -O0` for RV32IM, over `bare.c`, where `riscv64-unknown-elf-gcc` and picolibc
+are installed; and whether `link` of the compiled unit writes the bytes of `build`.
 """
 import os
 import shutil
@@ -17,6 +17,7 @@ import tempfile
 from run import least
 
 HERE = os.path.dirname(os.path.abspath(__file__))
+PICOLIBC = "/usr/lib/picolibc/riscv64-unknown-elf"
 
 
 def said(command, **more):
@@ -26,17 +27,29 @@ def said(command, **more):
 
 
 def instructions(fsc, image):
-    """The least bound at which the image comes to its end, by halving."""
+    """The least bound at which the image comes to its end, to a thousandth, by halving."""
     low, high = 1, 1
     while said([fsc, "run", "--steps", str(high), image])[1] == 122:
         low, high = high + 1, high * 8
-    while low < high:
+    while high - low > low // 1000:
         middle = (low + high) // 2
         if said([fsc, "run", "--steps", str(middle), image])[1] == 122:
             low = middle + 1
         else:
             high = middle
-    return low
+    return high
+
+
+def instructions_of_gcc(fsc, folder, source, wanted):
+    """The instructions of what `gcc -O0` makes for RV32IM, or None where it isn't installed."""
+    made, compiler = os.path.join(folder, "bare"), shutil.which("riscv64-unknown-elf-gcc")
+    if not compiler or not os.path.isdir(PICOLIBC):
+        return None
+    words = [compiler, "-O0", "-w", "-std=gnu90", "-march=rv32im", "-mabi=ilp32", "-isystem", f"{PICOLIBC}/include", "-nostdlib", "-static"]
+    words += ["-o", made, source, os.path.join(HERE, "bare.c"), f"-L{PICOLIBC}/lib/rv32im/ilp32", "-lc", "-lgcc"]
+    if said(words)[1] != 0 or said([fsc, "run", made]) != wanted:
+        return None
+    return instructions(fsc, made)
 
 
 def built_so(fsc, folder, source):
@@ -67,7 +80,10 @@ def main():
             well = ours == wanted == meant and is_linked
             bad += not well
             line = f"{name:10} {'ok' if well else 'DIFFERS'}: fsc go {least(turns, [fsc, 'go', source])[0]:.2f} s"
-            line += f", {instructions(fsc, image) / 1e6:.1f} million instructions; mean {least(1, [fsc, 'mean', source])[0]:.2f} s"
+            count, bare = instructions(fsc, image), instructions_of_gcc(fsc, folder, source, wanted)
+            line += f", {count / 1e6:.1f} million instructions"
+            line += f", {count / bare:.1f} times those of gcc -O0" if bare else ""
+            line += f"; mean {least(1, [fsc, 'mean', source])[0]:.2f} s"
             shell = f"gcc -O0 -w -std=c90 -fsanitize=address -o {checked} {source} && ASAN_OPTIONS=detect_leaks=0 {checked}"
             if said(["sh", "-c", shell]) == wanted:
                 line += f"; address sanitizer {least(turns, ['sh', '-c', shell])[0]:.2f} s"

@@ -15,6 +15,7 @@ HEAD = """#include <stdlib.h>
 #include <stdarg.h>
 #include <stddef.h>
 #include <stdio.h>
+int main(void);
 static void put_number(unsigned n)
 {
     int i;

@@ -38,7 +38,7 @@ def differences(options, source, is_wild):
     """What differs between the ways to run a program, a text for each."""
     output, lines, status = said([options.program, "go", "--stats", source])
     marks, lines = marked(lines)
-    if status in (122, 123):
+    if status in (122, 123) and lines:
         yield f"go: {lines[:1]}"
         return
     follows = said([options.program, "mean", source])

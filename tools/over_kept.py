@@ -3,7 +3,8 @@
 
 Call it at the top of a checkout, with flags as `rt check` takes them (`--jobs 1`, `--only FUNCTION`). It keeps its work in the
 crate's out/, so that a second call checks what changed; it proves no library, and says which ones are not kept. What it passes
-is not kept for `rt ci`, which is the gate. It stands on the inside of the kit's `rt` (rattle-kit-13f)."""
+is not kept for `rt ci`, which is the gate. With the flag `--take` it checks nothing, and takes the crate's own program from what
+was kept. It stands on the inside of the kit's `rt` (rattle-kit-13f)."""
 
 import importlib.machinery
 import importlib.util
@@ -43,10 +44,15 @@ def main(name, flags):
     rt.rtlib.guarded()
     rt.Crate.allowed = rt.handles_of(os.getcwd())
     crate = next(it for it in rt.crates_of(os.getcwd()) if it.name == name)
-    names = lacking(rt.Kept([*crate.below(), crate]), crate)
+    kept = rt.Kept([*crate.below(), crate])
+    names = lacking(kept, crate)
+    if flags == ["--take"] and not names and not kept.give(crate, False, kept.key(crate)):
+        names = [name]
     if names:
         print("not kept:", *names)
         return 3
+    if flags == ["--take"]:
+        return 0
     return rt.rtlib.Crate.check(crate, flags or ["--jobs", "2"])
 
 

@@ -46,9 +46,9 @@ class Field:
         self.name, self.rest, self.bytes = name, rest, b""
 
     def words(self):
-        """The words that it gives, each as bytes."""
-        shown = self.rest.encode("latin-1").split(b" ") if self.rest else []
-        return shown + [self.bytes] * bool(self.bytes)
+        """The words that it gives, each as bytes: those of its line and its bytes together, parted by single spaces."""
+        text = unescaped(self.rest.encode("latin-1")) + self.bytes
+        return text.split(b" ") if text else []
 
 
 def read_cases(name):
