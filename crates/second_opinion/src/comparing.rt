@@ -3,6 +3,7 @@
 use crate::live::Objects;
 use crate::outcome::{How, NONE, Streams, told};
 use crate::wanted::Wanted;
+use c_link::LinkFault;
 use fsc_core::CoreNo;
 use std::alloc::{AllocError, Global};
 
@@ -31,9 +32,18 @@ impl Differences {
         text
     }
 
-    /// Notes that the units are refused.
-    pub fn refused(&mut self, no: &CoreNo) -> Result<(), AllocError> {
-        self.text.push_str(reason(no))
+    /// Notes that the units are refused, but for a rule of linking that is wanted.
+    pub fn refused(&mut self, no: &CoreNo, wanted: &Wanted) -> Result<(), AllocError> {
+        match no {
+            CoreNo::Link(fault) => self.compare_linking(fault, wanted),
+            _ => self.text.push_str(reason(no)),
+        }
+    }
+
+    /// Notes where the units break another rule of linking.
+    fn compare_linking(&mut self, fault: &LinkFault, wanted: &Wanted) -> Result<(), AllocError> {
+        let end = unlinked(self.alloc, fault)?;
+        self.compare("linking", "end", end.as_bytes(), wanted.end.as_bytes())
     }
 
     /// Notes where a value of a run is another than was wanted.
@@ -107,6 +117,13 @@ impl Differences {
 fn shown(alloc: Global, bytes: &[u8]) -> Result<String, AllocError> {
     let (front, _) = bytes.split_at(bytes.len().min(MOST_SHOWN));
     String::from_utf8_lossy(alloc, front)
+}
+
+/// A broken rule of linking in words, with its name.
+fn unlinked(alloc: Global, fault: &LinkFault) -> Result<String, AllocError> {
+    let rule = String::from_utf8_lossy(alloc, &fault.rule.code())?;
+    let name = String::from_utf8_lossy(alloc, fault.name.as_slice())?;
+    format!(in alloc; "link {rule} {name}")
 }
 
 /// Why units are refused, in words.

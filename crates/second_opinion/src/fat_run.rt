@@ -4,9 +4,9 @@ use crate::comparing::Differences;
 use crate::fat_memory::fat_objects;
 use crate::outcome::{How, Streams};
 use crate::program::Asked;
-use fat_code::{FatUnit, ProgramParts};
+use fat_code::ProgramParts;
 use fat_machine::{FatMachine, FatStep, MachineNo};
-use fsc_core::{CoreNo, program_of};
+use fsc_core::CoreNo;
 use std::alloc::Global;
 
 /// The bytes of a small region.
@@ -25,12 +25,11 @@ struct Gone {
 /// Runs the fat code of a program.
 pub fn by_fat_code(
     alloc: Global,
-    units: &[FatUnit],
+    program: &ProgramParts,
     asked: &Asked,
     differences: &mut Differences,
 ) -> Result<(), CoreNo> {
-    let program = program_of(alloc, units)?;
-    let mut machine = machine_of(alloc, &program, asked.given.is_large)?;
+    let mut machine = machine_of(alloc, program, asked.given.is_large)?;
     let mut streams = Streams::new(alloc, &asked.given.input)?;
     let bound = asked.given.cost.saturating_mul(16).saturating_add(15);
     let gone = go(&mut machine, bound, &mut streams);

@@ -6,7 +6,7 @@ use crate::image_run::by_image;
 use crate::meaning::{by_meaning, fat_units};
 use crate::program::Asked;
 use fsc_base::NoMemory;
-use fsc_core::{CoreNo, typed_in_memory};
+use fsc_core::{CoreNo, program_of, typed_in_memory};
 use fsc_outside::MemFiles;
 use std::alloc::Global;
 
@@ -14,7 +14,7 @@ use std::alloc::Global;
 pub fn opinion(alloc: Global, asked: &Asked) -> Result<String, NoMemory> {
     let mut differences = Differences::new(alloc);
     if let Err(no) = run_all(alloc, asked, &mut differences) {
-        differences.refused(&no)?;
+        differences.refused(&no, &asked.wanted)?;
     }
     Ok(differences.into_text())
 }
@@ -25,7 +25,8 @@ fn run_all(alloc: Global, asked: &Asked, differences: &mut Differences) -> Resul
     let mut files = MemFiles::new(alloc, &given.files, &[])?;
     let typed = typed_in_memory(alloc, &mut files, &given.units)?;
     let units = fat_units(alloc, &typed)?;
+    let program = program_of(alloc, &units)?;
     by_meaning(alloc, typed, &units, asked, differences)?;
-    by_fat_code(alloc, &units, asked, differences)?;
+    by_fat_code(alloc, &program, asked, differences)?;
     by_image(alloc, &units, asked, differences)
 }

@@ -6,7 +6,7 @@ use std::alloc::{AllocError, Global};
 /// What the runs of a program have to be.
 #[derive(Drop)]
 pub struct Wanted {
-    /// How they end, in words; `none` where they don't at that cost.
+    /// How they end, in words; `none` where they don't at that cost, and the rule of linking that they break where they don't begin.
     pub end: String,
     pub output: Vec<u8>,
     /// How many bytes of the input are left.
