@@ -24,7 +24,7 @@ use Rattle.c_typed.specs.Settings.{tree, kind_of, start_of, type_of}
 
 -- ---- types
 
--- a number of the table that stands for this arithmetic type
+-- the number that stands for this arithmetic type, which each table has once
 abbrev pub Is : List TypeNode → Basic → (kind : ℕ) → Type 0
 Is types b kind = node_at types kind ≡ node.Basic b
 

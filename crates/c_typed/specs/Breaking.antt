@@ -2,7 +2,7 @@
 --
 -- Covered are K19, K20, K25, K26, K29 and K53, and of K30 and K46 what concerns operands that are no scalars, and targets that can't be
 -- modified; so far of the forms that `Typed` covers, and of a call's name no rule.
-use Rattle.std.specs.Prelude.{◌≡◌, ℕ, Bool, true, false, List, [], ◌∷◌, Option, Some, None}
+use Rattle.std.specs.Prelude.{◌≡◌, ℕ, true, false, List, ◌∷◌, Some, None}
 use Rattle.fsc_base.specs.declared.place.Place.{Place}
 use Rattle.fsc_base.specs.declared.rule.Rule.{Rule}
 use Rattle.fsc_base.specs.declared.rule.Rule.TheVariants.{K19, K20, K25, K26, K29, K30, K46, K53}
@@ -30,7 +30,7 @@ pub data Manner : Type 0 where
   ForValue : Manner
   ForUse : Manner
 
--- The operands of a comma expression before the last of these parts, and the setting behind them.
+-- One of the operands of a comma expression, and the setting behind those before it.
 pub data Before : Setting → List Expr → Setting → Expr → Type 0 where
   here : {s : Setting} {e : Expr} {es : List Expr} → Before s (e ∷ es) s e
   later : {s s'' : Setting} (s' : Setting) {e found : Expr} {es : List Expr} (v : TExpr) → Value s e v s' → Before s' es s'' found → Before s (e ∷ es) s'' found

@@ -1,12 +1,11 @@
 -- Where an expression stands, and what its typed tree shows.
-use Rattle.std.specs.Prelude.{◌≡◌, ℕ, ◌&&◌, not, Bool, true, false, List, Option, Some, None}
+use Rattle.std.specs.Prelude.{ℕ, ◌&&◌, not, Bool, true, false, List, Option, Some, None}
 use Rattle.fsc_base.specs.declared.place.Place.{Place}
 use Rattle.c_syntax.specs.declared.expression.Expr.{Expr, out-Expr}
 use Rattle.c_syntax.specs.declared.expression.ExprForm.{ExprForm}
 use Rattle.c_types.specs.declared.node.TypeNode.{TypeNode}
 use Rattle.c_types.specs.declared.node.TypeNode.TheVariants as node
 use Rattle.c_types.specs.Nodes.{node_at}
-use Rattle.c_types.specs.Layouts.{size_of}
 use Rattle.c_tree.specs.declared.expression.Symbol.{Symbol}
 use Rattle.c_tree.specs.declared.expression.TExpr.{TExpr, out-TExpr, roll-TExpr}
 use Rattle.c_tree.specs.declared.expression.Form.{Form}

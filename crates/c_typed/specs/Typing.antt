@@ -4,7 +4,7 @@
 -- Not covered so far: string literals; members; calls; ++ and --; & before an operand; sizeof; casts; operators on pointers, among
 -- them sums, differences and comparisons; assignments to pointers, structs and unions, and compound ones; ?: over other operands than
 -- numbers; arrays that are no lvalues; bit-fields.
-use Rattle.std.specs.Prelude.{◌≡◌, ℕ, Bool, true, false, ◌||◌, List, [], ◌∷◌, Option, Some, None}
+use Rattle.std.specs.Prelude.{◌≡◌, ℕ, Bool, true, false, ◌||◌, List, [], ◌∷◌, Some, None}
 use Rattle.fsc_base.specs.declared.place.Place.{Place}
 use Rattle.fsc_base.specs.declared.word.Width.{Width}
 use Rattle.c_lexer.specs.declared.token.BasicType.{BasicType}
@@ -25,7 +25,6 @@ use Rattle.c_types.specs.Nodes.{unqualified}
 use Rattle.c_types.specs.Building.{index_of, with_node}
 use Rattle.c_types.specs.Layouts.{size_of}
 use Rattle.c_grammar.specs.Trees.{place_of}
-use Rattle.c_tree.specs.declared.expression.Access.{Access}
 use Rattle.c_tree.specs.declared.expression.Access.TheVariants.{Scalar}
 use Rattle.c_tree.specs.declared.expression.Side.TheVariants.{Left, Right}
 use Rattle.c_tree.specs.declared.expression.Symbol.{Symbol}
@@ -33,7 +32,7 @@ use Rattle.c_tree.specs.declared.expression.TExpr.{TExpr}
 use Rattle.c_tree.specs.declared.expression.Form.TheVariants as form
 use Rattle.c_tree.specs.Programs.{is_record}
 use Rattle.c_tree.specs.SoundTypes.{is_word_of, is_signed_basic}
-use Rattle.c_typed.specs.Settings.{Meaning, Static, Automatic, Enumerator, Setting, form_of, tree, kind_of, start_of, type_of, is_path, is_scalar_in, is_void_in, is_modifiable, pointed}
+use Rattle.c_typed.specs.Settings.{Static, Automatic, Enumerator, Setting, form_of, tree, kind_of, start_of, type_of, is_path, is_scalar_in, is_void_in, is_modifiable, pointed}
 use Rattle.c_typed.specs.Arithmetic.{Is, basic_of, basic_of_constant, promoted, usual, Converted, integer_operator, group_of, Arithmetic, Shift, Comparison, operator_of}
 
 -- ---- values (6.2.2.1)
@@ -60,11 +59,11 @@ pub data Operated (types : List TypeNode) (op : Binary) : (left right : TExpr) �
       → basic_of types left ≡ Some m → basic_of types right ≡ Some n → Is types (usual m n) kind
       → Converted types kind left a → Converted types kind right b → operator_of op (is_signed_basic (usual m n)) ≡ Some to
       → Operated types op left right p (tree (form.Binary to a b) kind p)
-  comparison : {left right : TExpr} (a b : TExpr) {p : Place} (m n : Basic) (int : ℕ) (kind : ℕ) (to : Operator) → group_of op ≡ Comparison
+  comparison : {left right : TExpr} (a b : TExpr) {p : Place} (m n : Basic) (int kind : ℕ) (to : Operator) → group_of op ≡ Comparison
       → basic_of types left ≡ Some m → basic_of types right ≡ Some n → Is types (usual m n) kind
       → Converted types kind left a → Converted types kind right b → operator_of op (is_signed_basic (usual m n)) ≡ Some to → Is types Int int
       → Operated types op left right p (tree (form.Binary to a b) int p)
-  shift : {left right : TExpr} (a b : TExpr) {p : Place} (m n : Basic) (kind : ℕ) (by : ℕ) (to : Operator) → group_of op ≡ Shift
+  shift : {left right : TExpr} (a b : TExpr) {p : Place} (m n : Basic) (kind by : ℕ) (to : Operator) → group_of op ≡ Shift
       → basic_of types left ≡ Some m → basic_of types right ≡ Some n → Is types (promoted m) kind → Is types (promoted n) by
       → Converted types kind left a → Converted types by right b → operator_of op (is_signed_basic (promoted m)) ≡ Some to
       → Operated types op left right p (tree (form.Binary to a b) kind p)
@@ -75,10 +74,10 @@ pub data Operated (types : List TypeNode) (op : Binary) : (left right : TExpr) �
 
 -- What two values are under a subscript: a pointer to a complete object type and an integer, in either order (6.3.2.1).
 pub data Subscripted (types : List TypeNode) : (left right : TExpr) → Place → TExpr → Type 0 where
-  left : {a b : TExpr} (i : TExpr) {p : Place} (n : Basic) (to size : ℕ) (kind : ℕ) → pointed types a ≡ Some to → size_of types to ≡ Some size
+  left : {a b : TExpr} (i : TExpr) {p : Place} (n : Basic) (to size kind : ℕ) → pointed types a ≡ Some to → size_of types to ≡ Some size
       → basic_of types b ≡ Some n → Is types (promoted n) kind → Converted types kind b i
       → Subscripted types a b p (tree (form.Index a i Left size) to p)
-  right : {a b : TExpr} (i : TExpr) {p : Place} (n : Basic) (to size : ℕ) (kind : ℕ) → pointed types b ≡ Some to → size_of types to ≡ Some size
+  right : {a b : TExpr} (i : TExpr) {p : Place} (n : Basic) (to size kind : ℕ) → pointed types b ≡ Some to → size_of types to ≡ Some size
       → basic_of types a ≡ Some n → Is types (promoted n) kind → Converted types kind a i
       → Subscripted types a b p (tree (form.Index i b Right size) to p)
 
@@ -107,7 +106,7 @@ mutual
     indirection : {s s' : Setting} {e : Expr} (inner : Expr) (v : TExpr) (to : ℕ) → form_of e ≡ text.Unary Indirection inner → Used s inner v s' → pointed s'.types v ≡ Some to
         → Typed s e (tree (form.Deref v) to (place_of e)) s'
     -- + - ~ on a promoted integer, and ! on a scalar (6.3.3.3)
-    sign : {s s' : Setting} {e : Expr} (inner : Expr) (w : TExpr) (v : TExpr) (op : Unary) (to : UnaryOperator) (n : Basic) (kind : ℕ) → form_of e ≡ text.Unary op inner → integer_operator op ≡ Some to
+    sign : {s s' : Setting} {e : Expr} (inner : Expr) (w v : TExpr) (op : Unary) (to : UnaryOperator) (n : Basic) (kind : ℕ) → form_of e ≡ text.Unary op inner → integer_operator op ≡ Some to
         → Used s inner v s' → basic_of s'.types v ≡ Some n → Is s'.types (promoted n) kind → Converted s'.types kind v w
         → Typed s e (tree (form.Unary to w) kind (place_of e)) s'
     negation : {s s' : Setting} {e : Expr} (inner : Expr) (v : TExpr) (int : ℕ) → form_of e ≡ text.Unary Not inner → Used s inner v s' → is_scalar_in s'.types v ≡ true → Is s'.types Int int
@@ -116,13 +115,13 @@ mutual
     operation : {s s'' : Setting} (s' : Setting) {e : Expr} (a b : Expr) (op : Binary) {t : TExpr} (left right : TExpr) → form_of e ≡ text.Binary op a b → Used s a left s' → Used s' b right s''
         → Operated s''.types op left right (place_of e) t → Typed s e t s''
     -- a ? b : c of numbers, in their common type (6.3.15)
-    choice : {s after : Setting} (s' s'' : Setting) {e : Expr} (a b c : Expr) (test yes no : TExpr) (left right : TExpr) (m n : Basic) (kind : ℕ) → form_of e ≡ text.Conditional a b c
+    choice : {s after : Setting} (s' s'' : Setting) {e : Expr} (a b c : Expr) (test yes no left right : TExpr) (m n : Basic) (kind : ℕ) → form_of e ≡ text.Conditional a b c
         → Used s a test s' → Value s' b left s'' → Value s'' c right after → is_scalar_in after.types test ≡ true
         → basic_of after.types left ≡ Some m → basic_of after.types right ≡ Some n → Is after.types (usual m n) kind
         → Converted after.types kind left yes → Converted after.types kind right no
         → Typed s e (tree (form.Choose test yes no) kind (place_of e)) after
     -- a number assigned to an object of arithmetic type, as whose type it is converted (6.3.16.1)
-    assignment : {s s'' : Setting} (s' : Setting) {e : Expr} (a b : Expr) (target w : TExpr) (v : TExpr) (m n : Basic) (width : Width) (is_signed : Bool) → form_of e ≡ text.Assign None a b
+    assignment : {s s'' : Setting} (s' : Setting) {e : Expr} (a b : Expr) (target w v : TExpr) (m n : Basic) (width : Width) (is_signed : Bool) → form_of e ≡ text.Assign None a b
         → Typed s a target s' → Used s' b v s'' → is_modifiable s''.types target ≡ true
         → basic_of s''.types target ≡ Some m → basic_of s''.types v ≡ Some n → Converted s''.types (unqualified s''.types (kind_of target)) v w
         → is_word_of (type_of s''.types target) width is_signed ≡ true

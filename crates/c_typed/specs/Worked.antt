@@ -1,17 +1,15 @@
 -- The definition at small expressions, with `int a` at the first place of a function.
-use Rattle.std.specs.Prelude.{◌≡◌, ℕ, List, Option, Some, None, cond, codes}
+use Rattle.std.specs.Prelude.{ℕ, List, Option, Some, None, cond, codes}
 use Rattle.std.specs.Str.{bytes_eq}
-use Rattle.fsc_base.specs.declared.rule.Rule.TheVariants.{K19, K26}
+use Rattle.fsc_base.specs.declared.rule.Rule.TheVariants.{K19}
 use Rattle.c_lexer.specs.declared.token.BasicType.TheVariants as constant
 use Rattle.c_syntax.specs.declared.operator.Binary.TheVariants.{Add}
-use Rattle.c_syntax.specs.declared.operator.Unary.TheVariants.{Minus}
 use Rattle.c_syntax.specs.declared.expression.Expr.{Expr}
 use Rattle.c_syntax.specs.declared.expression.ExprForm.TheVariants as text
 use Rattle.c_ops.specs.declared.operators.Operator.TheVariants as operator
 use Rattle.c_types.specs.Nodes.{presets}
 use Rattle.c_grammar.specs.Trees.{expr_at}
 use Rattle.c_grammar.specs.Samples.{on, name_on}
-use Rattle.c_tree.specs.declared.expression.TExpr.{TExpr}
 use Rattle.c_tree.specs.Samples.{int, number, local, value, binary}
 use Rattle.c_typed.specs.Settings.{Meaning, Automatic, Setting}
 use Rattle.c_typed.specs.Typing.{Typed}
